@@ -1,0 +1,6 @@
+pub mod Pairs
+pub mod Grouping
+pub mod Finding
+pub mod Agreeing
+pub mod Senders
+pub mod Ending

@@ -1,0 +1,5 @@
+pub mod Splitting
+pub mod Figures
+pub mod Judging
+pub mod Printing
+pub mod Lining

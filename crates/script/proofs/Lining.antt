@@ -1,13 +1,14 @@
 -- What a script comes to from one line on.
-use mathlib.Core.Path.{_≡_, refl, sym, ap, _∙_}
+use mathlib.Core.Path.{_≡_, sym, ap, _∙_}
 use mathlib.Core.List.{List, [], _∷_, _++_, append-nil}
+use mathlib.Core.Logic.{⊎-elim}
 use Prim.Native.Nat.{ℕ, suc, _+_, _-_, _≤_, _<_}
 use native.Mathlib.Omega.{arith}
-use lib.ListN.{length, take, drop, length-drop}
+use lib.ListN.{length, take, drop, length-append, length-drop}
 use Rattle.std.proofs.shelf.Lists.{drop-drop, take-rest}
+use Rattle.std.proofs.shelf.Tests.{cases-eq}
 use Rattle.std.specs.declared.option.Option.{Option}
 use Rattle.script.specs.declared.complaints.Expected.{Expected}
-use Rattle.script.specs.declared.complaints.Complaint.{Complaint}
 use Rattle.script.specs.declared.reader.Given.{Given}
 use Rattle.script.specs.declared.statements.Statement.{Statement}
 use Rattle.script.specs.Text.{isNewline, before, linesOf}
@@ -59,3 +60,11 @@ module _ (text : List ℕ) (i k : ℕ) (here : k ≡ length (before isNewline (t
       faults-more h ne =
           ap (faultsFrom n i g) (first-line h ne)
           ∙ (λ j. noted j ++ faultsFrom (n + 1) (i + long j + 1) (after j) (linesOf (drop (i + k + 1) text)))
+
+      -- a line that is bad makes the script so
+      pub faults-some : i ≤ length text → 0 < length (notedAt n i (i + k) e) → 0 < length (faultsFrom n i g (linesOf (drop i text)))
+      faults-some h some =
+          ⊎-elim
+          (λ end. omega (arith, some, ap length (faults-last end)))
+          (λ ne. omega (arith, some, ap length (faults-more h ne), length-append (notedAt n i (i + k) e) (faultsFrom (n + 1) (i + k + 1) g′ (linesOf (drop (i + k + 1) text)))))
+          (cases-eq (i + k) (length text))

@@ -4,3 +4,4 @@ pub mod Saying
 pub mod Script
 pub mod Output
 pub mod Wording
+pub mod Proper

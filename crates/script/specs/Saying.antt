@@ -12,7 +12,7 @@ use Rattle.std.specs.declared.result.Result.the-variants.{Ok, Err}
 use Rattle.script.specs.declared.settings.Choice.{Choice}
 use Rattle.script.specs.declared.settings.Choice.the-variants.{Sum, Echo, Scramble, Grid}
 use Rattle.script.specs.declared.complaints.Expected.{Expected}
-use Rattle.script.specs.declared.complaints.Expected.the-variants.{FirstWord, PlanName, NoSettings, ScrambleSettings, GridSettings}
+use Rattle.script.specs.declared.complaints.Expected.the-variants.{PlanName, NoSettings, ScrambleSettings, GridSettings}
 use Rattle.script.specs.declared.statements.Statement.{Statement}
 use Rattle.script.specs.declared.statements.Statement.the-variants.{Nothing, Unknown, Places, Plan, Alone}
 use Rattle.script.specs.Text.{numberIn, oneNumber}

@@ -2,7 +2,7 @@
 -- Assumes nothing.
 use mathlib.Core.Bool.{Bool, true, false, cond}
 use mathlib.Core.List.{List, [], _∷_, _++_}
-use Prim.Native.Nat.{ℕ, suc, _+_}
+use Prim.Native.Nat.{ℕ, _+_}
 use lib.ListN.{length}
 use Rattle.std.specs.Of.Vec.{vec-items}
 use Rattle.std.specs.declared.option.Option.{Option}
@@ -102,6 +102,10 @@ unfoldable pub outcomeOf : List ℕ → Outcome
 outcomeOf text =
     outcome (givenBy unsaid (linesOf text) .script)
     (faultsFrom 1 0 unsaid (linesOf text) ++ missing (givenBy unsaid (linesOf text)))
+
+abbrev pub IsBad : Outcome → Type 0
+IsBad (good s) = ⊥
+IsBad (bad cs) = Unit {0}
 
 -- what the code answers, as an outcome
 abbrev pub toldBy : Reading → Outcome

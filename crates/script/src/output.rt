@@ -1,26 +1,28 @@
 // What is printed of rounds and places.
-ghost use mathlib.Core.Bool.{cond};
+ghost use mathlib.Core.Bool.{cond, true};
 ghost use mathlib.Core.List.{[], _∷_, _++_};
 ghost use mathlib.Core.Path.{_≡_};
 ghost use Prim.Native.Nat.{_+_, _*_, _<_, _≤_};
 ghost use lib.ListN.{length};
-ghost use Rattle.script.specs.Output.{flag, headText, hexByte, hexDigit, lineText, stateText};
-ghost use Rattle.std.specs.Joined.{joined};
+ghost use Rattle.script.specs.Output.{flag, headText, hexDigit, lineText, stateText};
 ghost use Rattle.std.specs.Of.Vec.{vec-cap, vec-items, vec-len};
 ghost use Rattle.std.specs.Results.{isOk};
 ghost use Rattle.std.specs.Written.{decimal};
 use std::alloc::AllocError;
 
-// Room for ten digits and what stands beside them, and for the `-` of an empty state.
+// Room for `round `, ten digits and a newline.
 const HEAD_ROOM: usize = 17;
 
+// Room for ten digits, two blanks, a mark, a newline and the `-` of an empty state.
 const LINE_ROOM: usize = 15;
+
 // A state beyond this length finds no memory, whatever there is.
 const LONGEST_STATE: usize = usize::MAX / 4;
 
-// The line that says how many rounds were done. Want of memory changes nothing.
+// The line that says how many rounds were done. Want of memory changes nothing, and where there is room there is none.
 pub fn head(out: &mut Vec<u8>, round: u32) -> Result<(), AllocError>
-    ensures { λ r. ⌜ vec-items (now (out .exit)) ≡ cond (isOk r) (vec-items (now (out .entry)) ++ headText round) (vec-items (now (out .entry))) ⌝ }
+    ensures items { λ r. ⌜ vec-items (now (out .exit)) ≡ cond (isOk r) (vec-items (now (out .entry)) ++ headText round) (vec-items (now (out .entry))) ⌝ }
+    ensures room { λ r. ⌜ (vec-len (now (out .entry)) + 17 ≤ vec-cap (now (out .entry)) → isOk r ≡ true) ⌝ }
 {
     out.reserve(HEAD_ROOM)?;
     out.extend_from_slice(b"round ")?;
@@ -29,9 +31,10 @@ pub fn head(out: &mut Vec<u8>, round: u32) -> Result<(), AllocError>
     Ok(())
 }
 
-// A place's line. Want of memory changes nothing.
+// A place's line. Want of memory changes nothing, and where there is room there is none.
 pub fn line(out: &mut Vec<u8>, place: u32, rests: bool, state: &[u8]) -> Result<(), AllocError>
-    ensures { λ r. ⌜ vec-items (now (out .exit)) ≡ cond (isOk r) (vec-items (now (out .entry)) ++ lineText place rests (now (state .entry))) (vec-items (now (out .entry))) ⌝ }
+    ensures items { λ r. ⌜ vec-items (now (out .exit)) ≡ cond (isOk r) (vec-items (now (out .entry)) ++ lineText place rests (now (state .entry))) (vec-items (now (out .entry))) ⌝ }
+    ensures room { λ r. ⌜ (vec-len (now (out .entry)) + (15 + 2 * length (now (state .entry))) ≤ vec-cap (now (out .entry)) → isOk r ≡ true) ⌝ }
 {
     if state.len() > LONGEST_STATE {
         return Err(AllocError);

@@ -1,8 +1,12 @@
 // Scripts: read line by line, with what is wrong with each.
 ghost use mathlib.Core.List.{_++_};
 ghost use mathlib.Core.Path.{_≡_};
-ghost use Rattle.script.specs.Script.{addedTo, faultOf, lacking, missing, notedAt, outcome, outcomeOf, toldBy};
+ghost use Prim.Native.Nat.{_<_};
+ghost use lib.ListN.{length};
+ghost use Rattle.script.specs.Proper.{Judged};
+ghost use Rattle.script.specs.Script.{IsBad, addedTo, faultOf, lacking, missing, notedAt, outcome, outcomeOf, toldBy};
 ghost use Rattle.std.specs.Of.Vec.{vec-items};
+ghost use Rattle.std.specs.Results.{Cases as ByOk};
 ghost use Rattle.std.specs.Vec.{made};
 use crate::complaints::Complaint;
 use crate::complaints::Expected;
@@ -31,8 +35,10 @@ struct Given {
     alone: bool,
 }
 
+// Only a bad script takes memory.
 pub fn read(heap: Global, text: &[u8]) -> Result<Reading, AllocError>
-    ensures { λ r. ⌜ made r (λ x. toldBy x ≡ outcomeOf (now (text .entry))) ⌝ }
+    ensures told { λ r. ⌜ ByOk r (λ x. toldBy x ≡ outcomeOf (now (text .entry))) (λ _. IsBad (outcomeOf (now (text .entry)))) ⌝ }
+    ensures judged { λ r. ⌜ made r (λ x. Judged (now (text .entry)) (toldBy x)) ⌝ }
 {
     let script = Script {
         places: 0,
@@ -114,7 +120,7 @@ fn note(
     end: usize,
     expected: Option<Expected>,
 ) -> Result<(), AllocError>
-    ensures { λ r. ⌜ made r (λ _. vec-items (now (complaints .exit)) ≡ vec-items (now (complaints .entry)) ++ notedAt line start end expected) ⌝ }
+    ensures { λ r. ⌜ ByOk r (λ _. vec-items (now (complaints .exit)) ≡ vec-items (now (complaints .entry)) ++ notedAt line start end expected) (λ _. 0 < length (notedAt line start end expected)) ⌝ }
 {
     if let Some(expected) = expected {
         complaints.push(Complaint {
@@ -129,7 +135,7 @@ fn note(
 
 // Complains of a statement that no line gave.
 fn lack(complaints: &mut Vec<Complaint>, given: bool, expected: Expected) -> Result<(), AllocError>
-    ensures { λ r. ⌜ made r (λ _. vec-items (now (complaints .exit)) ≡ vec-items (now (complaints .entry)) ++ lacking given expected) ⌝ }
+    ensures { λ r. ⌜ ByOk r (λ _. vec-items (now (complaints .exit)) ≡ vec-items (now (complaints .entry)) ++ lacking given expected) (λ _. 0 < length (lacking given expected)) ⌝ }
 {
     if !given {
         complaints.push(Complaint {
@@ -144,7 +150,7 @@ fn lack(complaints: &mut Vec<Complaint>, given: bool, expected: Expected) -> Res
 
 // Complains of what no line gave.
 fn lack_all(complaints: &mut Vec<Complaint>, given: Given) -> Result<(), AllocError>
-    ensures { λ r. ⌜ made r (λ _. vec-items (now (complaints .exit)) ≡ vec-items (now (complaints .entry)) ++ missing given) ⌝ }
+    ensures { λ r. ⌜ ByOk r (λ _. vec-items (now (complaints .exit)) ≡ vec-items (now (complaints .entry)) ++ missing given) (λ _. 0 < length (missing given)) ⌝ }
 {
     lack(complaints, given.places, Expected::PlacesLine)?;
     lack(complaints, given.plan, Expected::PlanLine)?;
@@ -153,7 +159,7 @@ fn lack_all(complaints: &mut Vec<Complaint>, given: Given) -> Result<(), AllocEr
 }
 
 fn finish(given: Given, mut complaints: Vec<Complaint>) -> Result<Reading, AllocError>
-    ensures { λ r. ⌜ made r (λ x. toldBy x ≡ outcome (given .script) (vec-items complaints ++ missing given)) ⌝ }
+    ensures { λ r. ⌜ ByOk r (λ x. toldBy x ≡ outcome (given .script) (vec-items complaints ++ missing given)) (λ _. 0 < length (missing given)) ⌝ }
 {
     lack_all(&mut complaints, given)?;
     if complaints.is_empty() {

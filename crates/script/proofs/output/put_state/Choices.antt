@@ -1,7 +1,7 @@
 use mathlib.Core.List.{_++_}
 use mathlib.Core.Path.{_≡_}
-use Prim.Native.Nat.{_+_, _*_, _-_, _≤_}
-use lib.ListN.{length, take}
+use Prim.Native.Nat.{_+_, _*_}
+use lib.ListN.{take}
 use Rattle.std.specs.Joined.{joined}
 use Rattle.std.specs.Of.Vec.{vec-items, vec-len, vec-cap}
 use Rattle.script.specs.Output.{hexByte}

@@ -1,4 +1,4 @@
-use mathlib.Core.Path.{_≡_, ap, _∙_}
+use mathlib.Core.Path.{ap, _∙_}
 use mathlib.Core.List.{List, _++_, append-assoc}
 use Rattle.std.specs.Of.Vec.{vec-items}
 use Rattle.script.specs.declared.complaints.Complaint.{Complaint}

@@ -1,15 +1,17 @@
 use mathlib.Core.Path.{_≡_, sym, ap, _∙_}
 use mathlib.Core.List.{List, _++_, append-assoc}
-use Prim.Native.Nat.{ℕ, _+_, _≤_}
+use Prim.Native.Nat.{ℕ, _+_, _≤_, _<_}
 use native.Mathlib.Omega.{arith}
-use lib.ListN.{length, drop}
+use lib.ListN.{length, drop, length-append}
 use Rattle.std.specs.Of.Vec.{vec-items}
-use Rattle.std.proofs.shelf.Results.{made-weaker}
-use Rattle.script.specs.declared.complaints.Complaint.{Complaint}
+use Rattle.std.proofs.shelf.Results.{cases-weaker, err-from-errBy}
 use Rattle.script.specs.declared.reader.Given.{Given}
-use Rattle.script.specs.Script.{faultsFrom, givenBy, missing, notedAt, outcome, outcomeOf, toldBy, unsaid}
+use Rattle.std.specs.Results.{Cases}
+use Rattle.script.specs.Script.{IsBad, faultsFrom, givenBy, missing, notedAt, outcome, outcomeOf, toldBy, unsaid}
 use Rattle.script.specs.Text.{linesOf}
-use Rattle.script.proofs.Lining.{given-last, given-more, faults-last, faults-more, within}
+use Rattle.script.proofs.Judging.{refused-is}
+use Rattle.script.proofs.Propriety.{judged-by}
+use Rattle.script.proofs.Lining.{given-last, given-more, faults-last, faults-more, faults-some, within}
 use Rattle.script.proofs.reader.read.Needs as need
 
 pub loop-complaints-again : need.loop-complaints-again
@@ -29,9 +31,9 @@ loop-complaints-again c =
           ∙ l .inv .3,
     )
 
-pub returns : need.returns
+told-is : (c : need.After-finish) → Cases (c .finish .result) (λ x. toldBy x ≡ outcomeOf (c .args .text .now)) (λ _. IsBad (outcomeOf (c .args .text .now)))
 unfolding outcomeOf
-returns c =
+told-is c =
     let l = c .loop-complaints in
     let text : List ℕ = c .args .text .now in
     let k : ℕ = c .find .result in
@@ -43,8 +45,34 @@ returns c =
     ∙ ap (λ cs. vec-items (l .complaints) ++ cs)
     (sym (faults-last text (l .start) k (c .find .ensures .value) (l .given) g′ (c .parse .result) (c .parse .ensures) (c .add-expected .ensures .after) (l .line) (c .add-expected .result) (c .add-expected .ensures .value) (c .if-end-text .taken)))
     ∙ l .inv .3 in
-    made-weaker (c .finish .result)
-    (λ x. toldBy x ≡ outcome (g′ .script) (vec-items (c .note .last .complaints) ++ missing g′))
-    (λ x. toldBy x ≡ outcomeOf text)
+    cases-weaker (c .finish .result) (c .finish .ensures)
     (λ x e. e ∙ (λ i. outcome (given-is i .script) (faults-are i ++ missing (given-is i))))
-    (c .finish .ensures)
+    (λ y h.
+    refused-is (givenBy unsaid (linesOf text) .script) (faultsFrom 1 0 unsaid (linesOf text) ++ missing (givenBy unsaid (linesOf text)))
+    (omega (arith, h, ap (λ g. length (missing g)) given-is, length-append (faultsFrom 1 0 unsaid (linesOf text)) (missing (givenBy unsaid (linesOf text))))))
+
+pub returns : need.returns
+returns c = record {
+  told = told-is c;
+  judged = judged-by (λ _. IsBad (outcomeOf (c .args .text .now))) (c .args .text .now) (c .finish .result) (told-is c);
+}
+
+pub returns-in-Break-note : need.returns-in-Break-note
+unfolding outcomeOf
+returns-in-Break-note c =
+    let l = c .loop-complaints in
+    let text : List ℕ = c .args .text .now in
+    let k : ℕ = c .find .result in
+    let some : 0 < length (faultsFrom (l .line) (l .start) (l .given) (linesOf (drop (l .start) text))) =
+    faults-some text (l .start) k (c .find .ensures .value) (l .given) (c .add-expected .last .given) (c .parse .result) (c .parse .ensures) (c .add-expected .ensures .after) (l .line) (c .add-expected .result) (c .add-expected .ensures .value) (l .inv .0) (c .in-Break-note .ensures tt) in
+    let p = err-from-errBy (c .from-residual .result) (c .from-residual .ensures .1) in
+    let refused : IsBad (outcomeOf text) =
+    refused-is (givenBy unsaid (linesOf text) .script) (faultsFrom 1 0 unsaid (linesOf text) ++ missing (givenBy unsaid (linesOf text)))
+    (omega (
+      arith,
+      some,
+      ap length (l .inv .3),
+      length-append (vec-items (l .complaints)) (faultsFrom (l .line) (l .start) (l .given) (linesOf (drop (l .start) text))),
+      length-append (faultsFrom 1 0 unsaid (linesOf text)) (missing (givenBy unsaid (linesOf text))),
+    )) in
+    record { told = rw (p .1) refused; judged = rw (p .1) tt }

@@ -1,4 +1,3 @@
-use mathlib.Core.Path.{_≡_}
 use borrow.Author.Needs.{needs}
 use Rattle.std.proofs.shelf.Equals.{sameBytes-decides, matches-decides}
 use Rattle.script.proofs.words.is.Needs as need

@@ -19,12 +19,12 @@ use rounds::Fault;
 use rounds::run;
 use script::Choice;
 use script::Complaint;
+use script::ExpectedDisplay;
 use script::Reading;
 use script::Script;
 use std::error::AnyError;
 use std::io::Read;
 use std::io::Write;
-use script::ExpectedDisplay;
 
 const BLOCK: usize = 65536;
 

@@ -65,6 +65,21 @@ impl Inbox {
         self.letters.get(part[k] as usize)
     }
 
+    // Reads a byte of each of a place's letters, so that memory fetches them together and not one after the other. What
+    // it returns means nothing.
+    pub fn touch(&self, place: Place) -> u8 {
+        let mut byte = 0;
+        for j in self.part(place) {
+            if let Some(letter) = self.letters.get(*j as usize) {
+                byte ^= (letter.head.from.0 & 0xff) as u8;
+                if !letter.bytes.is_empty() {
+                    byte ^= letter.bytes[0];
+                }
+            }
+        }
+        byte
+    }
+
     // Which letters a place got: its part of the order.
     fn part(&self, place: Place) -> &[u32]
         ensures { λ r. ⌜ now r ≡ indices (place .0) 0 (vec-items (now (self .entry) .letters .heads)) ⌝ }

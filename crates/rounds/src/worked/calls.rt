@@ -94,6 +94,7 @@ impl Worked {
         ensures places { λ _. ⌜ placesOf (now (self .exit)) ≡ placesOf (now (self .entry)) ⌝ }
     {
         self.out.begin(place)?;
+        room[0] = inbox.touch(place);
         let given = Given {
             round,
             place,

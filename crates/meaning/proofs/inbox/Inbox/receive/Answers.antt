@@ -14,4 +14,4 @@ ghost-self-2 c =
     (ap vec-items (c .swap-3 .ensures .x-after))
     (o .there)
     (subst (λ hs. Indexed (o .places) hs (vec-items (c .index .last .starts)) (vec-items (c .index .last .order))) (c .as-slice .ensures .value)
-    (subst (λ n. Indexed n (c .as-slice .result .now) (vec-items (c .index .last .starts)) (vec-items (c .index .last .order))) (c .places-places .ensures) (c .in-Continue-index .ensures tt)))
+    (subst (λ n. Indexed n (c .as-slice .result .now) (vec-items (c .index .last .starts)) (vec-items (c .index .last .order))) (c .places-places .ensures) (c .in-Continue-index .ensures tt .indexed)))

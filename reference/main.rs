@@ -1,5 +1,5 @@
 //! The second program: plays the scripts of `rehearse` with all places in one
-//! loop. It is written from docs/PROTOCOL.md alone and shares nothing with the
+//! loop. It is written from docs/PROTOCOL.md and shares no code with the
 //! engine, so that the two can be compared. It is meant to be obvious, not fast.
 
 use std::io::{self, BufWriter, Read, Write};

@@ -1,5 +1,5 @@
 // What is done with packed strings.
-ghost use Rattle.std.specs.Prelude.{◌≡◌, ℕ, ◌+◌, ◌-◌, ◌<◌, ◌≤◌, true, ◌&&◌, [], ◌∷◌, ◌++◌, length, take, is_ok, IfOk, if◌then◌else◌, vec_len, MatchOption, OnOk, nat_le, nat_lt, slice_index, slice_index_or};
+ghost use Rattle.std.specs.Prelude.{◌≡◌, ℕ, ◌+◌, ◌-◌, ◌<◌, ◌≤◌, true, cond, ◌&&◌, [], ◌∷◌, ◌++◌, length, take, is_ok, IfOk, if◌then◌else◌, vec_len, MatchOption, OnOk, nat_le, nat_lt, slice_index, slice_index_or};
 ghost use Rattle.std.specs.List.{between};
 ghost use Rattle.packed.specs.Strings.{items, used, spare, spare_bytes};
 
@@ -110,7 +110,7 @@ impl Strings {
             return Err(AllocError);
         };
         let wanted = need.max(size.saturating_add(size / 2));
-        let mut pool = vec![in self.pool.allocator(); 0u8; wanted]?;
+        let mut pool = vec![in *self.pool.allocator(); 0u8; wanted]?;
         copy_front(pool.as_mut_slice(), self.pool.as_slice(), used);
         self.pool = pool;
         Ok(())

@@ -12,8 +12,8 @@ returns-then-letter-last c =
     falls (letters_of c.args.letters.now) c.loop-letter.k (received_of c.in-Some.letter) found.0 found.1 c.loop-letter.last c.if-letter-last.true
     ∙ c.loop-letter.invariant
 
-pub overflow-add-k : goal.overflow-add-k
-overflow-add-k c = omega (arith, few c.args.letters.now, c.in-Some.ensures.0)
+pub overflow_add-k : goal.overflow_add-k
+overflow_add-k c = omega (arith, few c.args.letters.now, c.in-Some.ensures.0)
 
 pub loop-letter-preserved : goal.loop-letter-preserved
 loop-letter-preserved c =
@@ -22,4 +22,4 @@ loop-letter-preserved c =
     ∙ c.loop-letter.invariant
 
 pub returns : goal.returns
-returns c = sym (at_drop_all (rising_from c.loop-letter.last) (letters_of c.args.letters.now) c.loop-letter.k c.in-default.ensures) ∙ c.loop-letter.invariant
+returns c = sym (at_drop_all (rising_from c.loop-letter.last) (letters_of c.args.letters.now) c.loop-letter.k c.in_default.ensures) ∙ c.loop-letter.invariant

@@ -9,5 +9,5 @@ once h = omega arith
 pub returns : goal.returns
 returns c = record {
   state = once c.args.state;
-  event = c.event-at.ensures ∙ ap (λ h. event_at h c.args.workers) (once c.args.state);
+  event = c.event_at.ensures ∙ ap (λ h. event_at h c.args.workers) (once c.args.state);
 }

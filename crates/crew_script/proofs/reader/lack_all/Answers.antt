@@ -8,9 +8,9 @@ pub returns : goal.returns
 returns c =
     let g = c.args.all.now in
     let cs : List Complaint = vec_items c.args.complaints.now in
-    let run : Bool = c.has-run.result in
-    c.in-ok-lack-3.ensures
-    ∙ ap (λ l. l ++ lacking run RunLine) (c.in-ok-lack-2.ensures ∙ ap (λ l. l ++ lacking g.plan PlanLine) c.in-ok-lack.ensures)
+    let run : Bool = c.has_run.result in
+    c.in_ok-lack-3.ensures
+    ∙ ap (λ l. l ++ lacking run RunLine) (c.in_ok-lack-2.ensures ∙ ap (λ l. l ++ lacking g.plan PlanLine) c.in_ok-lack.ensures)
     ∙ append_assoc (cs ++ lacking g.places PlacesLine) (lacking g.plan PlanLine) (lacking run RunLine)
     ∙ append_assoc cs (lacking g.places PlacesLine) (lacking g.plan PlanLine ++ lacking run RunLine)
-    ∙ ap (λ b. cs ++ (lacking g.places PlacesLine ++ (lacking g.plan PlanLine ++ lacking b RunLine))) c.has-run.ensures
+    ∙ ap (λ b. cs ++ (lacking g.places PlacesLine ++ (lacking g.plan PlanLine ++ lacking b RunLine))) c.has_run.ensures

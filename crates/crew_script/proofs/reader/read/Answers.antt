@@ -21,16 +21,16 @@ loop-events-preserved c =
     let at : l.start + k ≤ length text = within text l.start k c.find.ensures.value l.invariant.0 in (
       omega (arith, c.if-end-text.false),
       omega (arith, l.invariant.1),
-      ap (λ cs. cs ++ faults_from all (l.line + 1) (l.start + k + 1) g' rest) c.in-ok-note.ensures
+      ap (λ cs. cs ++ faults_from all (l.line + 1) (l.start + k + 1) g' rest) c.in_ok-note.ensures
           ∙ append_assoc (vec_items l.complaints) (noted_at l.line l.start (l.start + k) c.fault-expected.result) (faults_from all (l.line + 1) (l.start + k + 1) g' rest)
           ∙ ap (λ cs. vec_items l.complaints ++ cs)
           (sym (faults_more text l.start k c.find.ensures.value st c.parse-statement.ensures l.given g' c.add.ensures all l.line c.fault-expected.result c.fault-expected.ensures l.invariant.0 c.if-end-text.false))
           ∙ l.invariant.2,
-      ap (λ xs. xs ++ each stretches_of (map said_in rest)) c.in-ok-keep-stretch.ensures
+      ap (λ xs. xs ++ each stretches_of (map said_in rest)) c.in_ok-keep_stretch.ensures
           ∙ append_assoc (vec_items l.stretches) (stretches_of st) (each stretches_of (map said_in rest))
           ∙ ap (λ xs. vec_items l.stretches ++ xs) (sym (each_more text l.start k c.find.ensures.value st c.parse-statement.ensures stretches_of l.invariant.0 c.if-end-text.false))
           ∙ l.invariant.3,
-      ap (λ xs. xs ++ each events_of (map said_in rest)) c.in-ok-keep-event.ensures
+      ap (λ xs. xs ++ each events_of (map said_in rest)) c.in_ok-keep_event.ensures
           ∙ append_assoc (vec_items l.events) (events_of st) (each events_of (map said_in rest))
           ∙ ap (λ xs. vec_items l.events ++ xs) (sym (each_more text l.start k c.find.ensures.value st c.parse-statement.ensures events_of l.invariant.0 c.if-end-text.false))
           ∙ l.invariant.4,
@@ -46,16 +46,16 @@ told_is c =
     let st : Statement = c.parse-statement.result in
     let all-is : all ≡ all_of text = c.survey-all.ensures in
     let faults-are : vec_items c.note.new.complaints ≡ faults_from all 1 0 unsaid (lines_of text) =
-    c.in-ok-note.ensures
+    c.in_ok-note.ensures
     ∙ ap (λ cs. vec_items l.complaints ++ cs)
     (sym (faults_last text l.start k c.find.ensures.value st c.parse-statement.ensures l.given c.add.new.given c.add.ensures all l.line c.fault-expected.result c.fault-expected.ensures c.if-end-text.true))
     ∙ l.invariant.2 in
-    let stretches_are : vec_items c.keep-stretch.new.stretches ≡ each stretches_of (statements_of text) =
-    c.in-ok-keep-stretch.ensures
+    let stretches_are : vec_items c.keep_stretch.new.stretches ≡ each stretches_of (statements_of text) =
+    c.in_ok-keep_stretch.ensures
     ∙ ap (λ xs. vec_items l.stretches ++ xs) (sym (each_last text l.start k c.find.ensures.value st c.parse-statement.ensures stretches_of c.if-end-text.true))
     ∙ l.invariant.3 in
-    let events_are : vec_items c.keep-event.new.events ≡ each events_of (statements_of text) =
-    c.in-ok-keep-event.ensures
+    let events_are : vec_items c.keep_event.new.events ≡ each events_of (statements_of text) =
+    c.in_ok-keep_event.ensures
     ∙ ap (λ xs. vec_items l.events ++ xs) (sym (each_last text l.start k c.find.ensures.value st c.parse-statement.ensures events_of c.if-end-text.true))
     ∙ l.invariant.4 in
     MatchResult-weaker c.finish.result c.finish.ensures
@@ -65,16 +65,16 @@ told_is c =
 pub returns : goal.returns
 returns c = record { told = told_is c; judged = judged_by (λ _. 0 < weight_of c.args.text.now) c.args.text.now c.finish.result (told_is c) }
 
-pub returns-in-err-note : goal.returns-in-err-note
-returns-in-err-note c =
+pub returns-in_err-note : goal.returns-in_err-note
+returns-in_err-note c =
     let l = c.loop-events in
     let text : List ℕ = c.args.text.now in
     let k : ℕ = c.find.result in
     let all : Given = c.survey-all.result in
     let st : Statement = c.parse-statement.result in
     let some : 0 < length (faults_from all l.line l.start l.given (lines_of (drop l.start text))) =
-    faults_some text l.start k c.find.ensures.value st c.parse-statement.ensures l.given (added_to l.given st) refl all l.line c.fault-expected.result c.fault-expected.ensures l.invariant.0 c.in-err-note.ensures in
-    let p = err_from_is_err_and c.from-residual.result c.from-residual.ensures.1 in
+    faults_some text l.start k c.find.ensures.value st c.parse-statement.ensures l.given (added_to l.given st) refl all l.line c.fault-expected.result c.fault-expected.ensures l.invariant.0 c.in_err-note.ensures in
+    let p = err_from_is_err_and c.from_residual.result c.from_residual.ensures.1 in
     let heavy : 0 < weight_of text =
     omega (
       arith,
@@ -86,26 +86,26 @@ returns-in-err-note c =
     ) in
     record { told = rw p.1 heavy; judged = rw p.1 tt }
 
-pub returns-in-err-keep-stretch : goal.returns-in-err-keep-stretch
-returns-in-err-keep-stretch c =
+pub returns-in_err-keep_stretch : goal.returns-in_err-keep_stretch
+returns-in_err-keep_stretch c =
     let l = c.loop-events in
     let text : List ℕ = c.args.text.now in
     let st : Statement = c.parse-statement.result in
     let some : 0 < length (each stretches_of (map said_in (lines_of (drop l.start text)))) =
-    each_some text l.start c.find.result c.find.ensures.value st c.parse-statement.ensures stretches_of l.invariant.0 c.in-err-keep-stretch.ensures in
-    let p = err_from_is_err_and c.from-residual-in-err-keep-stretch.result c.from-residual-in-err-keep-stretch.ensures.1 in
+    each_some text l.start c.find.result c.find.ensures.value st c.parse-statement.ensures stretches_of l.invariant.0 c.in_err-keep_stretch.ensures in
+    let p = err_from_is_err_and c.from_residual-in_err-keep_stretch.result c.from_residual-in_err-keep_stretch.ensures.1 in
     let heavy : 0 < weight_of text =
     omega (arith, some, ap length l.invariant.3, length-append (vec_items l.stretches) (each stretches_of (map said_in (lines_of (drop l.start text))))) in
     record { told = rw p.1 heavy; judged = rw p.1 tt }
 
-pub returns-in-err-keep-event : goal.returns-in-err-keep-event
-returns-in-err-keep-event c =
+pub returns-in_err-keep_event : goal.returns-in_err-keep_event
+returns-in_err-keep_event c =
     let l = c.loop-events in
     let text : List ℕ = c.args.text.now in
     let st : Statement = c.parse-statement.result in
     let some : 0 < length (each events_of (map said_in (lines_of (drop l.start text)))) =
-    each_some text l.start c.find.result c.find.ensures.value st c.parse-statement.ensures events_of l.invariant.0 c.in-err-keep-event.ensures in
-    let p = err_from_is_err_and c.from-residual-in-err-keep-event.result c.from-residual-in-err-keep-event.ensures.1 in
+    each_some text l.start c.find.result c.find.ensures.value st c.parse-statement.ensures events_of l.invariant.0 c.in_err-keep_event.ensures in
+    let p = err_from_is_err_and c.from_residual-in_err-keep_event.result c.from_residual-in_err-keep_event.ensures.1 in
     let heavy : 0 < weight_of text =
     omega (arith, some, ap length l.invariant.4, length-append (vec_items l.events) (each events_of (map said_in (lines_of (drop l.start text))))) in
     record { told = rw p.1 heavy; judged = rw p.1 tt }

@@ -6,7 +6,7 @@ use Rattle.crew_script.proofs.tallies.counts.Goals as goal
 parts : (o a b c d e f g z : List ℕ) → (((((((o ++ a) ++ b) ++ c) ++ d) ++ e) ++ f) ++ g) ++ z ≡ o ++ (a ++ (b ++ (c ++ (d ++ (e ++ (f ++ (g ++ z)))))))
 parts o a b c d e f g z = simp append_assoc
 
-items-is : (c : goal.After-push-reserved) → vec_items c.push-reserved.new.self ≡ vec_items c.args.out.now ++ counts_text c.args.c
+items-is : (c : goal.After-push_reserved) → vec_items c.push_reserved.new.self ≡ vec_items c.args.out.now ++ counts_text c.args.c
 items-is c =
     let t = c.args.c in
     let a : List ℕ = count_text (codes "given ") t.given in
@@ -16,20 +16,20 @@ items-is c =
     let f : List ℕ = count_text (codes ", cut ") t.cut in
     let g : List ℕ = count_text (codes ", attempts ") t.attempts in
     let h : List ℕ = count_text (codes ", noted ") t.noted in
-    c.push-reserved.ensures.items
+    c.push_reserved.ensures.items
     ∙ ap (λ l. l ++ 10 ∷ [])
-    (c.put-count-7.ensures.items
+    (c.put_count-7.ensures.items
     ∙ ap (λ l. l ++ h)
-    (c.put-count-6.ensures.items
+    (c.put_count-6.ensures.items
     ∙ ap (λ l. l ++ g)
-    (c.put-count-5.ensures.items
+    (c.put_count-5.ensures.items
     ∙ ap (λ l. l ++ f)
-    (c.put-count-4.ensures.items
+    (c.put_count-4.ensures.items
     ∙ ap (λ l. l ++ e)
-    (c.put-count-3.ensures.items
+    (c.put_count-3.ensures.items
     ∙ ap (λ l. l ++ d)
-    (c.put-count-2.ensures.items
-    ∙ ap (λ l. l ++ b) (c.put-count.ensures.items ∙ ap (λ l. l ++ a) c.in-ok-reserve.ensures.items)))))))
+    (c.put_count-2.ensures.items
+    ∙ ap (λ l. l ++ b) (c.put_count.ensures.items ∙ ap (λ l. l ++ a) c.in_ok-reserve.ensures.items)))))))
     ∙ parts (vec_items c.args.out.now) a b d e f g h (10 ∷ [])
 
 pub returns : goal.returns

@@ -7,12 +7,12 @@ loop-byte-preserved c =
     let out : List ℕ = vec_items c.args.out.now in
     let s : List ℕ = c.args.text.now in
     let i : ℕ = c.loop-byte.byte-index in (
-      c.push-reserved.ensures.items
+      c.push_reserved.ensures.items
           ∙ ap (λ l. l ++ get_or s i 0 ∷ []) c.loop-byte.invariant.0
           ∙ append_assoc out (take i s) (get_or s i 0 ∷ [])
           ∙ ap (λ l. out ++ l) (sym (take_more s i 0 c.loop-byte-test.true)),
-      omega (arith, c.push-reserved.ensures.len, c.loop-byte.invariant.1),
-      c.push-reserved.ensures.capacity ∙ c.loop-byte.invariant.2,
+      omega (arith, c.push_reserved.ensures.len, c.loop-byte.invariant.1),
+      c.push_reserved.ensures.capacity ∙ c.loop-byte.invariant.2,
     )
 
 pub returns : goal.returns

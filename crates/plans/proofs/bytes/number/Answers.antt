@@ -5,9 +5,9 @@ use Rattle.plans.proofs.bytes.number.Goals as goal
 pub returns-in-len4 : goal.returns-in-len4
 returns-in-len4 c =
     let long : length c.args.bytes.now ≡ 4 = search rules in
-    omega (arith, c.from-be-bytes.ensures, c.from-be-bytes.type-inv, number_listed c.args.bytes.now 4 long)
+    omega (arith, c.from_be_bytes.ensures, c.from_be_bytes.type_inv, number_listed c.args.bytes.now 4 long)
 
 pub returns-in-len8 : goal.returns-in-len8
 returns-in-len8 c =
     let long : length c.args.bytes.now ≡ 8 = search rules in
-    omega (arith, c.from-be-bytes-in-len8.ensures, c.from-be-bytes-in-len8.type-inv, number_listed c.args.bytes.now 8 long)
+    omega (arith, c.from_be_bytes-in-len8.ensures, c.from_be_bytes-in-len8.type_inv, number_listed c.args.bytes.now 8 long)

@@ -14,8 +14,8 @@ returns c =
     let state = c.args.state.now in
     let ls = letters_at g in
     let start : ℕ = 14695981039346656037 in
-    let long : c.to-be-bytes-3.result ≡ be2 (length state) = c.to-be-bytes-3.ensures ∙ be2_low (length state) in
-    let many : c.to-be-bytes-4.result ≡ be4 (length ls) = c.to-be-bytes-4.ensures ∙ ap (λ n. be4 (n % 2 ^ 32)) c.letters.ensures ∙ be4_low (length ls) in
+    let long : c.to_be_bytes-3.result ≡ be2 (length state) = c.to_be_bytes-3.ensures ∙ be2_low (length state) in
+    let many : c.to_be_bytes-4.result ≡ be4 (length ls) = c.to_be_bytes-4.ensures ∙ ap (λ n. be4 (n % 2 ^ 32)) c.letters.ensures ∙ be4_low (length ls) in
     let letters = flat_map spelled ls in
     let counted = be4 (length ls) ++ letters in
     let from-state = state ++ counted in
@@ -25,9 +25,9 @@ returns c =
     let h₃ = c.fnv-h-3.result in
     let h₄ = c.fnv-h-4.result in
     let h₅ = c.fnv-h-5.result in
-    let r = c.fnv-letters.result in
-    hashed_then start h r (be4 g.round.0) (be4 g.place.0 ++ from-length) (c.fnv-h.ensures ∙ ap (hashed start) c.to-be-bytes.ensures)
-    (hashed_then h h₂ r (be4 g.place.0) from-length (c.fnv-h-2.ensures ∙ ap (hashed h) c.to-be-bytes-2.ensures)
+    let r = c.fnv_letters.result in
+    hashed_then start h r (be4 g.round.0) (be4 g.place.0 ++ from-length) (c.fnv-h.ensures ∙ ap (hashed start) c.to_be_bytes.ensures)
+    (hashed_then h h₂ r (be4 g.place.0) from-length (c.fnv-h-2.ensures ∙ ap (hashed h) c.to_be_bytes-2.ensures)
     (hashed_then h₂ h₃ r (be2 (length state)) from-state (c.fnv-h-3.ensures ∙ ap (hashed h₂) long)
     (hashed_then h₃ h₄ r state counted c.fnv-h-4.ensures
-    (hashed_then h₄ h₅ r (be4 (length ls)) letters (c.fnv-h-5.ensures ∙ ap (hashed h₄) many) c.fnv-letters.ensures))))
+    (hashed_then h₄ h₅ r (be4 (length ls)) letters (c.fnv-h-5.ensures ∙ ap (hashed h₄) many) c.fnv_letters.ensures))))

@@ -16,8 +16,8 @@ loop-k-preserved c =
     let start = c.args.start in
     let h = c.loop-k.h in
     let found = c.in-Some.ensures in
-    hashed_then start h c.fnv-letter-h.result (flat_map spelled (take k ls)) (spelled (get_or ls k blank)) c.loop-k.invariant
-    (c.fnv-letter-h.ensures ∙ ap (λ (l : Letter). hashed h (spelled l)) found.1)
+    hashed_then start h c.fnv_letter-h.result (flat_map spelled (take k ls)) (spelled (get_or ls k blank)) c.loop-k.invariant
+    (c.fnv_letter-h.ensures ∙ ap (λ (l : Letter). hashed h (spelled l)) found.1)
     ∙ ap (hashed start) (joined_take_more spelled ls k blank found.0)
 
 pub returns-after-loop-k : goal.returns-after-loop-k

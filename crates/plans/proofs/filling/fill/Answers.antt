@@ -10,8 +10,8 @@ pub loop-i-preserved : goal.loop-i-preserved
 loop-i-preserved c =
     let i = c.loop-i.i in
     let word = c.args.word in
-    let part = c.copy-from-slice.new.self in
-    let bytes : part ≡ be8 word = c.copy-from-slice.ensures.after ∙ c.to-be-bytes-bytes.ensures in
+    let part = c.copy_from_slice.new.self in
+    let bytes : part ≡ be8 word = c.copy_from_slice.ensures.after ∙ c.to_be_bytes-bytes.ensures in
     take-put_mid (i * 8) _ c.loop-i.buffer part ((i + 1) * 8) (omega (arith, ap length bytes)) (omega arith)
     ∙ (λ t. c.loop-i.invariant t ++ bytes t)
     ∙ repeated_more word i

@@ -6,8 +6,8 @@ use Rattle.plans.specs.Scramble.{drawn, letter_from, letters_from}
 use Rattle.plans.proofs.Mailing.{mailed_more}
 use Rattle.plans.proofs.scramble.send_letters.Goals as goal
 
-pub send-letter-requires : goal.send-letter-requires
-send-letter-requires c =
+pub send_letter-requires : goal.send_letter-requires
+send_letter-requires c =
     let letter : ℕ → Sent = λ i. letter_from c.args.places (drawn c.args.h i) in
     omega (arith, ap (λ (o : Post). o.left) c.loop-j.invariant, length-map-range_with_len letter 0 c.loop-j.j)
 
@@ -17,10 +17,10 @@ loop-j-preserved c =
     let h = c.args.h in
     let j = c.loop-j.j in
     let letter : ℕ → Sent = λ i. letter_from n (drawn h i) in
-    mailed_more (post_of c.args.out.now) (post_of c.loop-j.out) (post_of c.send-letter.new.out)
+    mailed_more (post_of c.args.out.now) (post_of c.loop-j.out) (post_of c.send_letter.new.out)
     (letters_from n h j) (letter j ∷ []) (letters_from n h (j + 1))
     c.loop-j.invariant
-    (c.send-letter.ensures ∙ ap (λ word. mailed (post_of c.loop-j.out) (letter_from n word ∷ [])) c.draw.ensures)
+    (c.send_letter.ensures ∙ ap (λ word. mailed (post_of c.loop-j.out) (letter_from n word ∷ [])) c.draw.ensures)
     (sym (map-range_with_len_more letter 0 j j (omega arith)))
 
 pub returns : goal.returns

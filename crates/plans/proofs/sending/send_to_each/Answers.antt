@@ -6,8 +6,8 @@ use Rattle.plans.proofs.Joining.{joined_take_more}
 use Rattle.plans.proofs.Mailing.{length_to_each, mailed_more}
 use Rattle.plans.proofs.sending.send_to_each.Goals as goal
 
-pub send-to-requires : goal.send-to-requires
-send-to-requires c =
+pub send_to-requires : goal.send_to-requires
+send_to-requires c =
     let front = take c.loop-place.place-index c.args.places.now in
     record {
       room = omega (arith, ap (λ (o : Post). o.left) c.loop-place.invariant, length_to_each c.args.body.now front, length-take c.loop-place.place-index c.args.places.now);
@@ -19,9 +19,9 @@ loop-place-preserved c =
     let body = c.args.body.now in
     let places = c.args.places.now in
     let i = c.loop-place.place-index in
-    mailed_more (post_of c.args.out.now) (post_of c.loop-place.out) (post_of c.send-to.new.out)
+    mailed_more (post_of c.args.out.now) (post_of c.loop-place.out) (post_of c.send_to.new.out)
     (to_each body (take i places)) (to_one body (get_or places i None)) (to_each body (take (i + 1) places))
-    c.loop-place.invariant c.send-to.ensures (joined_take_more (to_one body) places i None c.loop-place-test.true)
+    c.loop-place.invariant c.send_to.ensures (joined_take_more (to_one body) places i None c.loop-place-test.true)
 
 pub returns : goal.returns
 returns c =

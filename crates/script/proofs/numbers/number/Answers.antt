@@ -29,6 +29,6 @@ pub returns : goal.returns
 returns c =
     let w : List ℕ = c.args.word.now in
     let i : ℕ = c.loop-byte.byte-index in
-    let some : 0 < length w = omega (arith, eqb-false (length w) 0 (sym c.if-is-empty.ensures)) in
-    sym (is_number w some c.if-word-gt-MOST-DIGITS.false (sym c.loop-byte.invariant.1 ∙ digits_end w i c.loop-byte-test.false)
+    let some : 0 < length w = omega (arith, eqb-false (length w) 0 (sym c.if-is_empty.ensures)) in
+    sym (is_number w some c.if-word-gt-MOST_DIGITS.false (sym c.loop-byte.invariant.1 ∙ digits_end w i c.loop-byte-test.false)
     ∙ ap (λ (n : ℕ). Some n) (sym c.loop-byte.invariant.0 ∙ worth_end w c.loop-byte.n i c.loop-byte-test.false))

@@ -8,7 +8,7 @@ pub returns : goal.returns
 returns c =
     let g = c.args.given in
     let cs : List Complaint = vec_items c.args.complaints.now in
-    c.in-ok-lack-3.ensures
-    ∙ ap (λ l. l ++ lacking g.alone AloneLine) (c.in-ok-lack-2.ensures ∙ ap (λ l. l ++ lacking g.plan PlanLine) c.in-ok-lack.ensures)
+    c.in_ok-lack-3.ensures
+    ∙ ap (λ l. l ++ lacking g.alone AloneLine) (c.in_ok-lack-2.ensures ∙ ap (λ l. l ++ lacking g.plan PlanLine) c.in_ok-lack.ensures)
     ∙ append_assoc (cs ++ lacking g.places PlacesLine) (lacking g.plan PlanLine) (lacking g.alone AloneLine)
     ∙ append_assoc cs (lacking g.places PlacesLine) (lacking g.plan PlanLine ++ lacking g.alone AloneLine)

@@ -18,7 +18,7 @@ loop-complaints-preserved c =
       omega (arith, c.if-end-text.false),
       omega (arith, l.invariant.1),
       sym (given_more text l.start k c.find.ensures.value l.given g' c.parse.result c.parse.ensures c.add-expected.ensures.after l.invariant.0 c.if-end-text.false) ∙ l.invariant.2,
-      ap (λ cs. cs ++ faults_from (l.line + 1) (l.start + k + 1) g' (lines_of (drop (l.start + k + 1) text))) c.in-ok-note.ensures
+      ap (λ cs. cs ++ faults_from (l.line + 1) (l.start + k + 1) g' (lines_of (drop (l.start + k + 1) text))) c.in_ok-note.ensures
           ∙ append_assoc (vec_items l.complaints) (noted_at l.line l.start (l.start + k) c.add-expected.result) (faults_from (l.line + 1) (l.start + k + 1) g' (lines_of (drop (l.start + k + 1) text)))
           ∙ ap (λ cs. vec_items l.complaints ++ cs)
           (sym (faults_more text l.start k c.find.ensures.value l.given g' c.parse.result c.parse.ensures c.add-expected.ensures.after l.line c.add-expected.result c.add-expected.ensures.value l.invariant.0 c.if-end-text.false))
@@ -35,7 +35,7 @@ told_is c =
     let given_is : g' ≡ given_by unsaid (lines_of text) =
     sym (given_last text l.start k c.find.ensures.value l.given g' c.parse.result c.parse.ensures c.add-expected.ensures.after c.if-end-text.true) ∙ l.invariant.2 in
     let faults-are : vec_items c.note.new.complaints ≡ faults_from 1 0 unsaid (lines_of text) =
-    c.in-ok-note.ensures
+    c.in_ok-note.ensures
     ∙ ap (λ cs. vec_items l.complaints ++ cs)
     (sym (faults_last text l.start k c.find.ensures.value l.given g' c.parse.result c.parse.ensures c.add-expected.ensures.after l.line c.add-expected.result c.add-expected.ensures.value c.if-end-text.true))
     ∙ l.invariant.3 in
@@ -51,15 +51,15 @@ returns c = record {
   judged = judged_by (λ _. IsBad (outcome_of c.args.text.now)) c.args.text.now c.finish.result (told_is c);
 }
 
-pub returns-in-err-note : goal.returns-in-err-note
+pub returns-in_err-note : goal.returns-in_err-note
 unfolding outcome_of
-returns-in-err-note c =
+returns-in_err-note c =
     let l = c.loop-complaints in
     let text : List ℕ = c.args.text.now in
     let k : ℕ = c.find.result in
     let some : 0 < length (faults_from l.line l.start l.given (lines_of (drop l.start text))) =
-    faults_some text l.start k c.find.ensures.value l.given c.add-expected.new.given c.parse.result c.parse.ensures c.add-expected.ensures.after l.line c.add-expected.result c.add-expected.ensures.value l.invariant.0 c.in-err-note.ensures in
-    let p = err_from_is_err_and c.from-residual.result c.from-residual.ensures.1 in
+    faults_some text l.start k c.find.ensures.value l.given c.add-expected.new.given c.parse.result c.parse.ensures c.add-expected.ensures.after l.line c.add-expected.result c.add-expected.ensures.value l.invariant.0 c.in_err-note.ensures in
+    let p = err_from_is_err_and c.from_residual.result c.from_residual.ensures.1 in
     let refused : IsBad (outcome_of text) =
     refused_is (given_by unsaid (lines_of text)).script (faults_from 1 0 unsaid (lines_of text) ++ missing (given_by unsaid (lines_of text)))
     (omega (

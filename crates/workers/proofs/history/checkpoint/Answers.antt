@@ -33,7 +33,7 @@ loop-left-preserved c =
     let js = c.args.journal.now in
     let k = c.loop-left.left in
     let r = c.args.round.0 in (
-      sym (not_last r (records_of (take (k - 1) js)) (record_of x) (sym c.in-default.ensures))
+      sym (not_last r (records_of (take (k - 1) js)) (record_of x) (sym c.in_default.ensures))
           ∙ ap (checkpoint_of r) (sym (split js k x (omega arith) (omega (arith, c.loop-left.invariant.1)) c.index-journal-left.is))
           ∙ c.loop-left.invariant.0,
       omega (arith, c.loop-left.invariant.1),

@@ -13,7 +13,7 @@ loop-kept-preserved c =
     let r = c.args.round.0 in
     let old = c.loop-kept.most.0 in
     let split : drop k js ≡ x ∷ drop (k + 1) js = drop_more js k x c.loop-kept-test.true ∙ ap (λ y. y ∷ drop (k + 1) js) (sym c.kept-item.is) in
-    ap (λ n. greatest_below n r (records_of (drop (k + 1) js))) c.greater-or-most.ensures
+    ap (λ n. greatest_below n r (records_of (drop (k + 1) js))) c.greater_or-most.ensures
     ∙ sym (greatest_first old r (record_of x) (records_of (drop (k + 1) js)))
     ∙ ap (λ l. greatest_below old r (records_of l)) (sym split)
     ∙ c.loop-kept.invariant

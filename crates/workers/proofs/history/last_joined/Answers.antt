@@ -12,7 +12,7 @@ loop-kept-preserved c =
     let k = c.loop-kept.kept-index in
     let old = c.loop-kept.last.0 in
     let split : drop k js ≡ x ∷ drop (k + 1) js = drop_more js k x c.loop-kept-test.true ∙ ap (λ y. y ∷ drop (k + 1) js) (sym c.kept-item.is) in
-    ap (λ n. last_joined n (records_of (drop (k + 1) js))) c.joined-or-last.ensures
+    ap (λ n. last_joined n (records_of (drop (k + 1) js))) c.joined_or-last.ensures
     ∙ sym (joined_first old (record_of x) (records_of (drop (k + 1) js)))
     ∙ ap (λ l. last_joined old (records_of l)) (sym split)
     ∙ c.loop-kept.invariant

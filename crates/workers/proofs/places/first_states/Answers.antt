@@ -5,7 +5,7 @@ use Rattle.workers.proofs.places.first_states.Goals as goal
 pub loop-v-preserved : goal.loop-v-preserved
 loop-v-preserved g c =
     let f : ℕ → List ℕ = (g.P.Plan.program c.args.plan.now).first in
-    c.in-ok-push.ensures.items
+    c.in_ok-push.ensures.items
     ∙ (λ i. c.loop-v.invariant i ++ c.first.ensures i ∷ [])
     ∙ sym (map_more f c.args.mine.now c.loop-v.v-index 0 (omega arith))
 

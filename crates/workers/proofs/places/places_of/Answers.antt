@@ -16,7 +16,7 @@ loop-v-preserved c =
     elim c.if-me-owner.branch [
       | then-me-owner+in-ok-push w ↦
           let yes' : p v ≡ true = sym same ∙ eq-eqb i c.owner.result.0 w.if-me-owner.true in
-          ap vec_items w.mine-is ∙ w.in-ok-push.ensures.items ∙ ap (λ l. l ++ v ∷ []) c.loop-v.invariant ∙ ap (λ t. old ++ cond t (v ∷ []) []) (sym yes') ∙ sym (kept_more p v)
+          ap vec_items w.mine-is ∙ w.in_ok-push.ensures.items ∙ ap (λ l. l ++ v ∷ []) c.loop-v.invariant ∙ ap (λ t. old ++ cond t (v ∷ []) []) (sym yes') ∙ sym (kept_more p v)
       | else-me-owner w ↦
           let no' : p v ≡ false = sym same ∙ ne_eqb i c.owner.result.0 w.if-me-owner.false in
           ap vec_items w.mine-is ∙ c.loop-v.invariant ∙ sym (append-nil old) ∙ ap (λ t. old ++ cond t (v ∷ []) []) (sym no') ∙ sym (kept_more p v)

@@ -10,12 +10,12 @@ use Rattle.workers.proofs.saying.send_parts.Goals as goal
 pub loop-letters-init : goal.loop-letters-init
 loop-letters-init c =
     let v = c.args.parts in
-    let e : length (into_iter_items c.into-iter-letters-iterator.result) ≡ length (vec_items v) = ap length c.into-iter-letters-iterator.ensures.into-iter-gives.0 in
+    let e : length (into_iter_items c.into_iter-letters-iterator.result) ≡ length (vec_items v) = ap length c.into_iter-letters-iterator.ensures.into_iter-gives.0 in
     let few : length (vec_items v) ≤ 64 = omega (arith, v.ok.0, c.requires) in
-    (tt, tt, refl, let z : 0 + length (into_iter_items c.into-iter-letters-iterator.result) ≤ 64 = omega arith in z)
+    (tt, tt, refl, let z : 0 + length (into_iter_items c.into_iter-letters-iterator.result) ≤ 64 = omega arith in z)
 
-pub overflow-add-to : goal.overflow-add-to
-overflow-add-to c =
+pub overflow_add-to : goal.overflow_add-to
+overflow_add-to c =
     let e : length (into_iter_items c.loop-letters.letters-iterator) ≡ suc (length (into_iter_items c.next.new.self)) = ap length c.in-Some.ensures.steps.0 in
     let h : c.loop-letters.to + 1 ≤ 64 = omega (arith, c.loop-letters.invariant.3) in
     record { fits = omega arith }
@@ -32,7 +32,7 @@ loop-letters-preserved c =
     let split : into_iter_items c.loop-letters.letters-iterator ≡ x ∷ into_iter_items it = c.in-Some.ensures.steps.0 in (
       tt,
       tt,
-      (ap (λ l. parcels_of l ++ batches_from i k r (j + 1) (map letters_of (into_iter_items it))) c.in-ok-push.ensures.items
+      (ap (λ l. parcels_of l ++ batches_from i k r (j + 1) (map letters_of (into_iter_items it))) c.in_ok-push.ensures.items
           ∙ ap (λ l. l ++ batches_from i k r (j + 1) (map letters_of (into_iter_items it))) (map_push parcel_of (vec_items c.loop-letters.says) (record { from = c.args.me; to = record { 0 = j }; kind = kind.Batch c.args.attempt c.args.round c.args.me (record { 0 = j }); letters = x }))
           ∙ append_assoc old (batch_with i k r j (letters_of x) ∷ []) (batches_from i k r (j + 1) (map letters_of (into_iter_items it)))
           ∙ ap (λ l. old ++ batches_from i k r j (map letters_of l)) (sym split)
@@ -51,4 +51,4 @@ returns c =
     sym (append-nil old)
     ∙ ap (λ l. old ++ batches_from i k r c.loop-letters.to (map letters_of l)) (sym none)
     ∙ c.loop-letters.invariant.2
-    ∙ ap (λ l. parcels_of (vec_items c.args.says.now) ++ batches_from i k r 0 (map letters_of l)) c.into-iter-letters-iterator.ensures.into-iter-gives.0
+    ∙ ap (λ l. parcels_of (vec_items c.args.says.now) ++ batches_from i k r 0 (map letters_of l)) c.into_iter-letters-iterator.ensures.into_iter-gives.0

@@ -15,8 +15,8 @@ loop-k-preserved g c =
     let b = job_of c.args.table.now (g.P.Plan.program c.args.plan.now) in
     let post = received c.args.inbox.now in
     let k = c.loop-k.k in (
-      c.in-ok-turn.ensures.places ∙ c.loop-k.invariant.0,
-      c.in-ok-turn.ensures.added
+      c.in_ok-turn.ensures.places ∙ c.loop-k.invariant.0,
+      c.in_ok-turn.ensures.added
           ∙ (λ i. added (c.loop-k.invariant.1 i) (turn ((c.loop-k.invariant.0 ∙ c.requires.beside) i) b.program (input_from c.args.round.0 (get_or c.args.mine.now k 0) (c.in-Some.ensures.1 i) post) (get_or c.args.rests.now k false)))
           ∙ sym (view_more b c.args.round.0 post c.args.mine.now (items c.args.states.now) c.args.rests.now k c.requires.known c.requires.told (omega arith)),
     )

@@ -3,6 +3,6 @@ use Rattle.world.proofs.queue.push_all.Goals as goal
 
 pub loop-parcel-preserved : goal.loop-parcel-preserved
 loop-parcel-preserved c =
-    c.in-ok-push-back.ensures.items
+    c.in_ok-push_back.ensures.items
     ∙ ap (λ l. l ++ c.in-Some.parcel ∷ []) c.loop-parcel.invariant
     ∙ append_assoc (deque_items c.args.queue.now) c.loop-parcel.yielded (c.in-Some.parcel ∷ [])

@@ -14,18 +14,18 @@ returns c =
     let j : ℕ = c.args.line.0 in
     let r : ℕ = c.args.round.0 in
     let f : F.Foreman = foreman_of c.args.self in
-    let told : F.Foreman = foreman_of c.with-kept-told.result in
-    let told_is : told ≡ F.with_kept f j r f.noted = c.with-kept-told.ensures.is in
-    let least : ℕ = c.least-kept-least.result.0 in
-    let least_is : least ≡ F.least_kept m f j r = c.least-kept-least.ensures ∙ (λ i. F.least_of r (c.with-kept-told.ensures.workers i) (told_is i).kept) in
+    let told : F.Foreman = foreman_of c.with_kept-told.result in
+    let told_is : told ≡ F.with_kept f j r f.noted = c.with_kept-told.ensures.is in
+    let least : ℕ = c.least_kept-least.result.0 in
+    let least_is : least ≡ F.least_kept m f j r = c.least_kept-least.ensures ∙ (λ i. F.least_of r (c.with_kept-told.ensures.workers i) (told_is i).kept) in
     let later : f.noted < F.least_kept m f j r = omega (arith, c.if-least-told.false, ap (λ (x : F.Foreman). x.noted) told_is, least_is) in
     let notes : notes_of (vec_items c.new-2.result.appends) ≡ J.Noted (F.least_kept m f j r) ∷ [] =
     ap (λ v. notes_of (vec_items v)) c.new-2.ensures.appends
-    ∙ ap notes_of (c.in-ok-push.ensures.items ∙ ap (λ xs. xs ++ Noted c.least-kept-least.result ∷ []) c.new-appends.ensures.items)
+    ∙ ap notes_of (c.in_ok-push.ensures.items ∙ ap (λ xs. xs ++ Noted c.least_kept-least.result ∷ []) c.new-appends.ensures.items)
     ∙ (λ i. J.Noted (least_is i) ∷ []) in
     let says : parcels_of (vec_items c.new-2.result.says) ≡ [] = ap (λ v. parcels_of (vec_items v)) c.new-2.ensures.says ∙ ap parcels_of c.new.ensures.items in
     record {
-      workers = c.with-kept-told.ensures.workers;
+      workers = c.with_kept-told.ensures.workers;
       is =
           (λ i. record {
             state = Some (record {

@@ -2,14 +2,14 @@ use Rattle.std.proofs.Common.{◌<◌, sym, subst, rules}
 use Rattle.crew.proofs.Owners.{covered}
 use Rattle.crew.proofs.partition.Partition.new.Goals as goal
 
-pub invariant-of-result : goal.invariant-of-result
-invariant-of-result c = (
+pub invariant_of-result : goal.invariant_of-result
+invariant_of-result c = (
   search rules,
   (
     search rules,
     (
       search rules,
-      (c.in-Ok.ensures.0, ((λ v h. subst (λ w. w < c.args.workers) (sym (c.in-Ok.ensures.1 v h)) (covered c.args.places c.args.workers c.args.stretches.now v c.in-default.ensures.1 c.in-default-misplaced.ensures)), tt)),
+      (c.in-Ok.ensures.0, ((λ v h. subst (λ w. w < c.args.workers) (sym (c.in-Ok.ensures.1 v h)) (covered c.args.places c.args.workers c.args.stretches.now v c.in_default.ensures.1 c.in_default-misplaced.ensures)), tt)),
     ),
   ),
 )

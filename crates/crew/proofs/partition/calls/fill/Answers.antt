@@ -20,7 +20,7 @@ loop-s-preserved c =
     let ss : List Stretch = c.args.stretches.now in
     let i : ℕ = l.s-index in
     let s : Stretch = get_or ss i nowhere in
-    let more = c.in-ok-resize.ensures in
+    let more = c.in_ok-resize.ensures in
     let front : take (i + 1) ss ≡ take i ss ++ s ∷ [] = take_more ss i nowhere c.loop-s-test.true in
     let fits = stands_parts c.args.places c.args.workers ss i (c.requires.each i c.loop-s-test.true) in (
       (λ v h.
@@ -42,7 +42,7 @@ pub returns : goal.returns
 returns c =
     let l = c.loop-s in
     let ss : List Stretch = c.args.stretches.now in
-    let more = c.in-ok-resize-2.ensures in
+    let more = c.in_ok-resize-2.ensures in
     let all : take l.s-index ss ≡ ss = take_all l.s-index ss c.loop-s-test.false in (
       more.len,
       (λ v h.

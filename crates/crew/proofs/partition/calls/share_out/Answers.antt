@@ -19,7 +19,7 @@ loop-w-preserved c =
     let n = c.args.places in
     let m = c.args.workers in
     let w : ℕ = l.w in
-    let more = c.in-ok-resize.ensures in
+    let more = c.in_ok-resize.ensures in
     let up : share_start n m w ≤ share_start n m (w + 1) = share_rises n m w (w + 1) c.requires.some (omega arith) in (
       more.len,
       (λ v h.
@@ -53,5 +53,5 @@ returns c =
       (λ u v h. l.invariant.2 u v (subst (λ k. u < k) (sym last) h)),
     )
 
-pub returns-in-err-resize : goal.returns-in-err-resize
-returns-in-err-resize c = let p = err_from_is_err_and c.from-residual.result c.from-residual.ensures.1 in rw p.1 tt
+pub returns-in_err-resize : goal.returns-in_err-resize
+returns-in_err-resize c = let p = err_from_is_err_and c.from_residual.result c.from_residual.ensures.1 in rw p.1 tt

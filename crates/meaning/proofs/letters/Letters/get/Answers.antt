@@ -5,10 +5,10 @@ use Rattle.meaning.specs.Packets.{letter_of, nobody}
 use Rattle.meaning.proofs.Pairs.{length_paired, get_or_paired}
 use Rattle.meaning.proofs.letters.Letters.get.Goals as goal
 
-pub returns-in-default : goal.returns-in-default
-returns-in-default c =
+pub returns-in_default : goal.returns-in_default
+returns-in_default c =
     let s = c.args.self.now in
-    omega (arith, c.in-default.ensures, length_paired (vec_items s.heads) (items s.bodies) s.even, s.even)
+    omega (arith, c.in_default.ensures, length_paired (vec_items s.heads) (items s.bodies) s.even, s.even)
 
 pub returns : goal.returns
 returns c =

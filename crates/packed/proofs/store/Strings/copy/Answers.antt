@@ -10,8 +10,8 @@ returns c =
     let cuts : List ℕ = vec_items s.cuts in
     let pool : List ℕ = vec_items s.pool in
     let n : ℕ = c.used.result in
-    let new : List ℕ = vec_items c.in-ok-pool.pool in
+    let new : List ℕ = vec_items c.in_ok-pool.pool in
     let last : get_or cuts (length cuts - 1) 0 ≡ n = ap (λ k. get_or cuts (k - 1) 0) (sym s.cuts.ok.0) ∙ sym c.used.ensures.value in
-    let new_is : new ≡ take n pool = c.in-ok-pool.ensures.items ∙ ap (take n) c.as-slice-2.ensures.value in
-    ap (λ l. strings l new) (c.in-ok-cuts.ensures.items ∙ c.as-slice.ensures.value)
+    let new_is : new ≡ take n pool = c.in_ok-pool.ensures.items ∙ ap (take n) c.as_slice-2.ensures.value in
+    ap (λ l. strings l new) (c.in_ok-cuts.ensures.items ∙ c.as_slice.ensures.value)
     ∙ strings_same cuts pool new s.rises (ap (λ k. take k new) last ∙ ap (take n) new_is ∙ take-take n n pool (le_refl n) ∙ ap (λ k. take k pool) (sym last))

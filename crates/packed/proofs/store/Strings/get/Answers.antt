@@ -14,6 +14,6 @@ returns c =
     let h : c.args.k < length (vec_items s.cuts) - 1 = omega (arith, s.cuts.ok.0) in (
       omega (arith, length_strings (vec_items s.cuts) (vec_items s.pool), s.cuts.ok.0),
       c.part.ensures
-          ∙ (λ i. string_at (c.as-slice.ensures.value i) (c.as-slice-2.ensures.value i) c.args.k)
+          ∙ (λ i. string_at (c.as_slice.ensures.value i) (c.as_slice-2.ensures.value i) c.args.k)
           ∙ sym (get_or_strings (vec_items s.cuts) (vec_items s.pool) c.args.k h),
     )

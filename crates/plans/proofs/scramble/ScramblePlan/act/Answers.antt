@@ -21,12 +21,12 @@ returns c =
     ap (λ w. repeated d (w / 2 ^ 32 % 257)) c.draw-2.ensures ∙ ap (λ e. (going_on p.places e).state) digest in
     let rests : not (eqb (c.draw-3.result / 2 ^ 32 % 4) 0) ≡ (going_on p.places h).rests =
     ap (λ w. not (eqb (w / 2 ^ 32 % 4) 0)) c.draw-3.ensures ∙ ap (λ e. (going_on p.places e).rests) digest in
-    let many : c.letters-to-send.result ≡ how_many (drawn d 254 / 2 ^ 32) =
-    c.letters-to-send.ensures ∙ ap (λ w. how_many (w / 2 ^ 32)) c.draw.ensures in
-    let sends : letters_from p.places d c.letters-to-send.result ≡ (going_on p.places h).sends =
+    let many : c.letters_to_send.result ≡ how_many (drawn d 254 / 2 ^ 32) =
+    c.letters_to_send.ensures ∙ ap (λ w. how_many (w / 2 ^ 32)) c.draw.ensures in
+    let sends : letters_from p.places d c.letters_to_send.result ≡ (going_on p.places h).sends =
     ap (letters_from p.places d) many ∙ ap (λ e. (going_on p.places e).sends) digest in
     record {
       state = c.again.ensures ∙ long ∙ ap (λ (x : Output). x.state) is;
       rests = rests ∙ ap (λ (x : Output). x.rests) is;
-      sent = c.send-letters.ensures ∙ ap (mailed o) (sends ∙ ap (λ (x : Output). x.sends) is);
+      sent = c.send_letters.ensures ∙ ap (mailed o) (sends ∙ ap (λ (x : Output). x.sends) is);
     }

@@ -3,11 +3,11 @@ use Rattle.meaning.specs.Meaning.{all_rest, none}
 use Rattle.meaning.specs.Mail.{received}
 use Rattle.rounds.proofs.alone.Alone.is_over.Goals as goal
 
-pub returns-then-is-empty : goal.returns-then-is-empty
-returns-then-is-empty c =
+pub returns-then-is_empty : goal.returns-then-is_empty
+returns-then-is_empty c =
     let s = c.args.self.now in
-    let rest : c.all-rest.result ≡ all_rest s.places (λ v. get_or (vec_items s.rests) v false) =
-    c.all-rest.ensures
-    ∙ ap (λ l. all_rest (length l) (λ v. get_or l v false)) c.as-slice.ensures.value
+    let rest : c.all_rest.result ≡ all_rest s.places (λ v. get_or (vec_items s.rests) v false) =
+    c.all_rest.ensures
+    ∙ ap (λ l. all_rest (length l) (λ v. get_or l v false)) c.as_slice.ensures.value
     ∙ ap (λ n. all_rest n (λ v. get_or (vec_items s.rests) v false)) s.told in
-    rest ∙ ap (λ b. b && all_rest s.places (λ v. get_or (vec_items s.rests) v false)) (sym c.if-is-empty.true ∙ c.is-empty.ensures)
+    rest ∙ ap (λ b. b && all_rest s.places (λ v. get_or (vec_items s.rests) v false)) (sym c.if-is_empty.true ∙ c.is_empty.ensures)

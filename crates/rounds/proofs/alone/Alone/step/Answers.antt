@@ -9,19 +9,19 @@ use Rattle.rounds.specs.Run.{view_of}
 use Rattle.rounds.proofs.Turns.{turns_fit}
 use Rattle.rounds.proofs.alone.Alone.step.Goals as goal
 
-pub invariant-of-self-2 : goal.invariant-of-self-2
-invariant-of-self-2 g c =
+pub invariant_of-self-2 : goal.invariant_of-self-2
+invariant_of-self-2 g c =
     let s = c.args.self.now in
     let w = world_of (view_of s) in
     let q = g.P.Plan.program c.args.plan.now in
     let r = s.round.0 in
     let places : places_of c.clear.new.self ≡ s.places = c.clear.ensures.1 ∙ s.beside in
-    let old : c.as-slice-old.result.now ≡ vec_items s.rests = c.as-slice-old.ensures.value in
+    let old : c.as_slice-old.result.now ≡ vec_items s.rests = c.as_slice-old.ensures.value in
     let worked : worked_of c.work.new.self ≡ turns_below s.places q r w s.places =
     c.in-Ok.ensures.worked
     ∙ (λ i. turns_below (places i) q r (world_of (record { states = items s.states; rests = old i; post = received s.inbox })) ((ap length old ∙ s.told) i)) in
-    let states : items c.swap.new.x ≡ (turns_below s.places q r w s.places).states = ap items c.swap.ensures.x-after ∙ (λ i. (worked i).states) in
-    let rests : vec_items c.swap-2.new.x ≡ (turns_below s.places q r w s.places).rests = ap vec_items c.swap-2.ensures.x-after ∙ (λ i. (worked i).rests) in (
+    let states : items c.swap.new.x ≡ (turns_below s.places q r w s.places).states = ap items c.swap.ensures.x_after ∙ (λ i. (worked i).states) in
+    let rests : vec_items c.swap-2.new.x ≡ (turns_below s.places q r w s.places).rests = ap vec_items c.swap-2.ensures.x_after ∙ (λ i. (worked i).rests) in (
       s.few,
       (
         ap length states ∙ length-map-range_with_len (λ v. (turn_at s.places q r w v).state) 0 s.places,

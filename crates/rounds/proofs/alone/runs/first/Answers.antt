@@ -19,17 +19,17 @@ firsts_fit f n all k =
     (λ le. subst (λ s. length s ≤ state_cap) (sym (get_or_past (map f (range_with_len 0 n)) k [] (omega (arith, length-map-range_with_len f 0 n)))) (omega arith))
     (cases_lt k n)
 
-pub invariant-of-result : goal.invariant-of-result
-invariant-of-result g c =
+pub invariant_of-result : goal.invariant_of-result
+invariant_of-result g c =
     let n = c.args.places in
     let f : ℕ → List ℕ = (g.P.Plan.program c.args.plan.now).first in
-    let states : items c.in-ok-states.states ≡ map f (range_with_len 0 n) = c.in-ok-states.ensures in (
+    let states : items c.in_ok-states.states ≡ map f (range_with_len 0 n) = c.in_ok-states.ensures in (
       c.requires,
       (
         ap length states ∙ length-map-range_with_len f 0 n,
         (
-          sym c.resize.new.self.ok.0 ∙ c.in-ok-resize.ensures.len,
-          (subst Capped (sym states) (firsts_fit f n (λ v. g.met.P.Plan.first_fits c.args.plan.now v)), (c.in-ok-next.ensures.1, tt)),
+          sym c.resize.new.self.ok.0 ∙ c.in_ok-resize.ensures.len,
+          (subst Capped (sym states) (firsts_fit f n (λ v. g.met.P.Plan.first_fits c.args.plan.now v)), (c.in_ok-next.ensures.1, tt)),
         ),
       ),
     )
@@ -39,12 +39,12 @@ returns g c =
     let n = c.args.places in
     let q = g.P.Plan.program c.args.plan.now in
     let rests : vec_items c.resize.new.self ≡ map (λ v. false) (range_with_len 0 n) =
-    c.in-ok-resize.ensures.items
+    c.in_ok-resize.ensures.items
     ∙ ap (λ k. take n (vec_items c.new-rests.result) ++ replicate k false) (let z : n - vec_len c.new-rests.result ≡ n = omega (arith, c.new-rests.ensures.len) in z)
     ∙ none_rest n (take n (vec_items c.new-rests.result)) (ap (take n) c.new-rests.ensures.items ∙ take-nil n) in (
       record {
         places = refl;
-        view = (λ i. record { states = c.in-ok-states.ensures i; rests = rests i; post = c.in-ok-inbox.ensures i }) ∙ start_is n q;
+        view = (λ i. record { states = c.in_ok-states.ensures i; rests = rests i; post = c.in_ok-inbox.ensures i }) ∙ start_is n q;
       },
       refl,
     )

@@ -5,7 +5,7 @@ use Rattle.rounds.specs.Run.{view_of, Stands}
 use Rattle.rounds.specs.declared.alone.Alone.{Alone}
 use Rattle.rounds.proofs.Standing.{steps, over_is, ends_here, ends_later, ends_now}
 use Rattle.rounds.proofs.alone.runs.run.Goals as goal
-use Rattle.rounds.proofs.alone.runs.run.Goals.{else-loop-i-test, then-loop-i-test+then-is-over}
+use Rattle.rounds.proofs.alone.runs.run.Goals.{else-loop-i-test, then-loop-i-test+then-is_over}
 
 -- whether the machine is over is whether its round is
 over_at : (n : ℕ) (q : Program) (a : Alone) → Stands n q a → is_over a.places (world_of (view_of a)) ≡ is_over n (rounds n q a.round.0)
@@ -24,12 +24,12 @@ loop-i-preserved g c =
     let q = g.P.Plan.program c.args.plan.now in
     let a = c.loop-i.all in
     let s = c.loop-i.invariant.1 in
-    let more = c.in-ok-step.ensures in
+    let more = c.in_ok-step.ensures in
     let left : 0 < c.args.budget.0 - c.loop-i.i = omega arith in (
       c.loop-i.invariant.0,
       stands_on n q a c.step.new.self s more.places more.round more.leads,
       (λ i. ends_from n q (more.round i) ((let z : c.args.budget.0 - (c.loop-i.i + 1) ≡ c.args.budget.0 - c.loop-i.i - 1 = omega arith in z) i))
-          ∙ sym (ends_later n q a.round.0 (c.args.budget.0 - c.loop-i.i) left (sym (c.is-over.ensures ∙ over_at n q a s) ∙ c.if-is-over.false))
+          ∙ sym (ends_later n q a.round.0 (c.args.budget.0 - c.loop-i.i) left (sym (c.is_over.ensures ∙ over_at n q a s) ∙ c.if-is_over.false))
           ∙ c.loop-i.invariant.2,
       omega (arith, more.round, c.loop-i.invariant.3),
     )
@@ -45,6 +45,6 @@ returns g c =
       s,
       elim c.loop-i-test.branch [
         | else-loop-i-test w ↦ sym (ends_now n q a.round.0 left (omega (arith, w.loop-i-test.false))) ∙ c.loop-i.invariant.2
-        | then-loop-i-test+then-is-over w ↦ sym (ends_here n q a.round.0 left (omega (arith, w.loop-i-test.true)) (sym (w.is-over.ensures ∙ over_at n q a s) ∙ w.if-is-over.true)) ∙ c.loop-i.invariant.2
+        | then-loop-i-test+then-is_over w ↦ sym (ends_here n q a.round.0 left (omega (arith, w.loop-i-test.true)) (sym (w.is_over.ensures ∙ over_at n q a s) ∙ w.if-is_over.true)) ∙ c.loop-i.invariant.2
       ],
     )

@@ -13,7 +13,7 @@ returns c =
     let all = box_value c.args.self.now.slots in
     let xs = c.deref.result.now in
     let long : m ≤ length xs = omega (arith, ap length c.deref.ensures, c.args.self.now.all, c.requires) in
-    c.in-ok-letters.ensures
+    c.in_ok-letters.ensures
     ∙ ap (λ (l : List (Option Letters)). merged_below (held l) (length l)) c.front-some.ensures
     ∙ merged_front xs m long
     ∙ ap (λ (l : List (Option Letters)). merged_below (held l) m) c.deref.ensures

@@ -7,5 +7,5 @@ use Rattle.workers.proofs.got.Got.new.Goals as goal
 
 pub returns : goal.returns
 returns c =
-    ap (λ (xs : List (Option Letters)). λ (j : ℕ). option_map letters_of (get_or xs j None)) c.in-ok-slots.ensures.ok
+    ap (λ (xs : List (Option Letters)). λ (j : ℕ). option_map letters_of (get_or xs j None)) c.in_ok-slots.ensures.ok
     ∙ (λ k j. option_map letters_of (get_or_same 64 j None k))

@@ -15,9 +15,9 @@ returns c q =
     let ready = says_ready b i w in
     let put = says_put_by i w.attempt w.latest in
     let hello : List Parcel = to_foreman i (Hello w.attempt) ∷ [] in
-    c.in-ok-say-put-by.ensures
-    ∙ ap (λ l. l ++ put) (c.in-ok-say-ready.ensures q)
-    ∙ ap (λ l. (l ++ ready) ++ put) (c.in-ok-say-batches.ensures q)
+    c.in_ok-say_put_by.ensures
+    ∙ ap (λ l. l ++ put) (c.in_ok-say_ready.ensures q)
+    ∙ ap (λ l. (l ++ ready) ++ put) (c.in_ok-say_batches.ensures q)
     ∙ ap (λ l. ((parcels_of l ++ batches) ++ ready) ++ put) c.new-says.ensures.items
     ∙ ap (λ t. cond t [] ((batches ++ ready) ++ put)) (sym c.if-self.false)
     ∙ ap (λ t. cond t (cond s.over [] ((batches ++ ready) ++ put)) hello) (sym c.if-not-self.false)

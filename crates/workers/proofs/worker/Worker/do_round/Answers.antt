@@ -10,8 +10,8 @@ use Rattle.workers.specs.Crewed.{job_in}
 use Rattle.workers.proofs.Turning.{turns_length, turns_fit}
 use Rattle.workers.proofs.worker.Worker.do_round.Goals as goal
 
-pub invariant-of-self-2 : goal.invariant-of-self-2
-invariant-of-self-2 g c =
+pub invariant_of-self-2 : goal.invariant_of-self-2
+invariant_of-self-2 g c =
     let s = c.args.self.now in
     let b = job_in s (g.P.Plan.program c.args.plan.now) in
     let r = s.round.0 in
@@ -20,9 +20,9 @@ invariant-of-self-2 g c =
     let ss = items s.states in
     let bs = vec_items s.rests in
     let ts = turns_of b r post ps ss bs in
-    let next = c.work-places.new.next in
+    let next = c.work_places.new.next in
     let worked : worked_of next ≡ view_of_turns ts =
-    c.in-ok-work-places.ensures.worked ∙ (λ i. view_of_turns (turns_of b r post (c.as-slice.ensures.value i) ss (c.as-slice-2.ensures.value i))) in
+    c.in_ok-work_places.ensures.worked ∙ (λ i. view_of_turns (turns_of b r post (c.as_slice.ensures.value i) ss (c.as_slice-2.ensures.value i))) in
     let many : length ts ≡ length ps = turns_length b r post ps ss bs s.known s.told in (
       s.owns,
       (
@@ -32,7 +32,7 @@ invariant-of-self-2 g c =
           (
             s.fits,
             (
-              c.in-ok-work-places.ensures.places ∙ c.clear.ensures.1 ∙ s.beside,
+              c.in_ok-work_places.ensures.places ∙ c.clear.ensures.1 ∙ s.beside,
               (
                 (λ _. ap (λ (v : View). length v.states) worked ∙ length-map ts (λ (t : Turn). t.state) ∙ many),
                 (

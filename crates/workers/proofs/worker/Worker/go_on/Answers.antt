@@ -6,16 +6,16 @@ use Rattle.crew.specs.Worker as W
 use Rattle.workers.specs.Crewed.{job_in, worker_of}
 use Rattle.workers.proofs.worker.Worker.go_on.Goals as goal
 
-pub returns-then-not-is-due : goal.returns-then-not-is-due
-returns-then-not-is-due c =
+pub returns-then-not-is_due : goal.returns-then-not-is_due
+returns-then-not-is_due c =
     let s = c.args.self.now in
     let r = s.round.0 + 1 in
     let a = c.saying.ensures in
-    let due : false ≡ W.is_due r = sym c.if-not-is-due.true ∙ c.is-due.ensures ∙ ap W.is_due c.requires.next in
+    let due : false ≡ W.is_due r = sym c.if-not-is_due.true ∙ c.is_due.ensures ∙ ap W.is_due c.requires.next in
     record {
-      same = c.in-ok-step.ensures.same;
+      same = c.in_ok-step.ensures.same;
       replied = λ q. record {
-        state = c.in-ok-step.ensures.went q;
+        state = c.in_ok-step.ensures.went q;
         appends = ap records_of a.appends ∙ ap (λ t. cond t (Checkpoint r (W.next_share (job_in s q) (worker_of s)) ∷ []) []) due;
         says = ap (λ v. parcels_of (vec_items v)) a.says ∙ ap parcels_of c.new.ensures.items ∙ ap (λ t. cond t (W.to_foreman s.me.0 (PutBy s.attempt.0 r) ∷ []) []) due;
         outcome = a.outcome;
@@ -26,10 +26,10 @@ pub returns : goal.returns
 returns c =
     let s = c.args.self.now in
     let r = s.round.0 + 1 in
-    let p = c.in-ok-answer.ensures in
-    let same = c.in-ok-step.ensures.same in
-    let went = c.in-ok-step.ensures.went in
-    let due : true ≡ W.is_due r = sym c.if-not-is-due.false ∙ c.is-due.ensures ∙ ap W.is_due c.requires.next in
+    let p = c.in_ok-answer.ensures in
+    let same = c.in_ok-step.ensures.same in
+    let went = c.in_ok-step.ensures.went in
+    let due : true ≡ W.is_due r = sym c.if-not-is_due.false ∙ c.is_due.ensures ∙ ap W.is_due c.requires.next in
     record {
       same = same;
       replied = λ q. record {

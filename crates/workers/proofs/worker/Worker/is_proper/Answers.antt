@@ -4,10 +4,10 @@ use Rattle.crew.specs.Worker.{rising_from}
 use Rattle.meaning.specs.Packets.{letters_of}
 use Rattle.workers.proofs.worker.Worker.is_proper.Goals as goal
 
-pub returns-then-are-workers : goal.returns-then-are-workers
-returns-then-are-workers c =
+pub returns-then-are_workers : goal.returns-then-are_workers
+returns-then-are_workers c =
     let ls = letters_of c.args.letters.now in
     let n = c.args.self.now.table.places in
-    c.well-formed-2.ensures
+    c.well_formed-2.ensures
     ∙ ap (λ k. rising_from 0 ls && named k ls) c.places.ensures
-    ∙ ap (λ t. t && (rising_from 0 ls && named n ls)) (sym c.if-are-workers.true ∙ c.are-workers.ensures)
+    ∙ ap (λ t. t && (rising_from 0 ls && named n ls)) (sym c.if-are_workers.true ∙ c.are_workers.ensures)

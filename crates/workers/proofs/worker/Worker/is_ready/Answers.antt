@@ -10,7 +10,7 @@ returns-then-self c =
     let s = c.args.self.now in
     let f : ℕ → Bool = λ j. is_some (got_of s.got j) in
     record {
-      ready = λ q. c.has-all.ensures
+      ready = λ q. c.has_all.ensures
           ∙ ap (λ m. all_below m f) c.workers.ensures
           ∙ ap (λ t. is_some (worked_in t (worked_of s.next)) && all_below s.table.workers f) (sym c.if-self.true);
       worked = λ _. c.if-self.true;

@@ -13,17 +13,17 @@ pub returns : goal.returns
 returns g c =
     let b = job_of c.args.table (g.P.Plan.program c.args.plan.now) in
     let i = c.args.me.0 in
-    let w = c.in-ok-worker.worker in
-    let made = c.in-ok-worker.ensures in
-    let fresh = c.is-fresh-fresh.ensures in
-    let last = c.last-joined-attempt.ensures in (
+    let w = c.in_ok-worker.worker in
+    let made = c.in_ok-worker.ensures in
+    let fresh = c.is_fresh-fresh.ensures in
+    let last = c.last_joined-attempt.ensures in (
       made.0,
       made.1,
       subst (λ y. Replied y w (record { owed = c.new.result; outcome = Taken })) (opened_is b i (records_of c.args.journal.now))
           (record {
             state = made.2 ∙ (λ k. started_as b i (fresh k) (last k));
-            appends = ap (λ v. records_of (vec_items v)) c.new.ensures.appends ∙ c.in-ok-appends.ensures ∙ (λ k. cond (fresh k) (Joined (last k) ∷ []) []);
-            says = ap (λ v. parcels_of (vec_items v)) c.new.ensures.says ∙ c.in-ok-says.ensures ∙ (λ k. cond (fresh k) [] (to_foreman i (Hello (last k)) ∷ []));
+            appends = ap (λ v. records_of (vec_items v)) c.new.ensures.appends ∙ c.in_ok-appends.ensures ∙ (λ k. cond (fresh k) (Joined (last k) ∷ []) []);
+            says = ap (λ v. parcels_of (vec_items v)) c.new.ensures.says ∙ c.in_ok-says.ensures ∙ (λ k. cond (fresh k) [] (to_foreman i (Hello (last k)) ∷ []));
             outcome = refl;
           }),
     )

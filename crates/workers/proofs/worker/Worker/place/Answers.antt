@@ -5,4 +5,4 @@ use Rattle.workers.proofs.worker.Worker.place.Goals as goal
 pub returns : goal.returns
 returns c =
     let k = c.args.k in
-    subst (λ (l : List ℕ). MatchOption c.place-at.result (length l ≤ k) (λ (p : Place). (k < length l) × (p.0 ≡ get_or l k 0))) (c.as-slice.ensures.value ∙ c.args.self.now.owns) c.place-at.ensures
+    subst (λ (l : List ℕ). MatchOption c.place_at.result (length l ≤ k) (λ (p : Place). (k < length l) × (p.0 ≡ get_or l k 0))) (c.as_slice.ensures.value ∙ c.args.self.now.owns) c.place_at.ensures

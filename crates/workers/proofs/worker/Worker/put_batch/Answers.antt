@@ -15,14 +15,14 @@ returns c =
     let j = c.args.line.0 in
     let a = c.saying.ensures in
     let put : List Letter → ℕ → Option (List Letter) = λ ls k. cond (eqb k j) (Some ls) (got_of s.got k) in
-    let got : got_of c.put.new.self ≡ put (letters_of c.args.letters.now) = c.put.ensures ∙ ap put c.in-ok-batch.ensures in
+    let got : got_of c.put.new.self ≡ put (letters_of c.args.letters.now) = c.put.ensures ∙ ap put c.in_ok-batch.ensures in
     record {
       same = (refl, refl);
       replied = λ q. record {
         state = ap (with_got w) got;
         appends = ap records_of a.appends;
         says = ap (λ v. parcels_of (vec_items v)) a.says
-            ∙ c.in-ok-say-ready.ensures q
+            ∙ c.in_ok-say_ready.ensures q
             ∙ (λ k. parcels_of (c.new-says.ensures.items k) ++ says_ready (job_in s q) s.me.0 (with_got w (got k)));
         outcome = a.outcome;
       };

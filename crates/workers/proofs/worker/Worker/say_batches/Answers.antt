@@ -14,13 +14,13 @@ use Rattle.workers.specs.Saying.{batches_from}
 use Rattle.workers.proofs.Sending.{batches_are}
 use Rattle.workers.proofs.worker.Worker.say_batches.Goals as goal
 
-pub send-parts-requires : goal.send-parts-requires
-send-parts-requires c =
-    let v = c.in-ok-parts.parts in
+pub send_parts-requires : goal.send_parts-requires
+send_parts-requires c =
+    let v = c.in_ok-parts.parts in
     let t = c.args.self.now.table in
     let m = t.workers in
     let ls = letters_of c.letters.result.now in
-    let e : length (vec_items v) ≡ m = sym (length-map (vec_items v) letters_of) ∙ ap length c.in-ok-parts.ensures ∙ length-map-range_with_len (λ j. part_of (owner_of t) j ls) 0 m in
+    let e : length (vec_items v) ≡ m = sym (length-map (vec_items v) letters_of) ∙ ap length c.in_ok-parts.ensures ∙ length-map-range_with_len (λ j. part_of (owner_of t) j ls) 0 m in
     omega (arith, v.ok.0, t.many)
 
 pub returns-then-self : goal.returns-then-self
@@ -32,7 +32,7 @@ returns-then-self c q =
     let m = s.table.workers in
     let own = owner_of s.table in
     let old = parcels_of (vec_items c.args.says.now) in
-    c.in-ok-send-parts.ensures
-    ∙ ap (λ l. old ++ batches_from i k r 0 l) (c.in-ok-parts.ensures ∙ ap (parts_of own m) c.letters.ensures)
+    c.in_ok-send_parts.ensures
+    ∙ ap (λ l. old ++ batches_from i k r 0 l) (c.in_ok-parts.ensures ∙ ap (parts_of own m) c.letters.ensures)
     ∙ ap (λ l. old ++ l) (batches_are i k r (λ j. part_of own j (post_of s.next.out).letters) 0 m)
     ∙ ap (λ t. old ++ says_batches (job_in s q) i (worker_as t s)) (sym c.if-self.true)

@@ -6,18 +6,18 @@ use Rattle.crew.specs.Worker.{is_silent, to_foreman}
 use Rattle.workers.specs.Crewed.{job_in, worker_of}
 use Rattle.workers.proofs.worker.Worker.say_ready.Goals as goal
 
-pub returns-then-is-ready : goal.returns-then-is-ready
-returns-then-is-ready c q =
+pub returns-then-is_ready : goal.returns-then-is_ready
+returns-then-is_ready c q =
     let s = c.args.self.now in
     let old = parcels_of (vec_items c.args.says.now) in
     let ready : Bool → Parcel = λ t. to_foreman s.me.0 (Ready s.attempt.0 s.round.0 t) in
-    c.in-ok-tell-foreman.ensures
-    ∙ ap (λ t. old ++ ready t ∷ []) (c.is-silent.ensures q)
-    ∙ ap (λ t. old ++ cond t (ready (is_silent (job_in s q) (worker_of s)) ∷ []) []) (sym c.if-is-ready.true ∙ c.is-ready.ensures.ready q)
+    c.in_ok-tell_foreman.ensures
+    ∙ ap (λ t. old ++ ready t ∷ []) (c.is_silent.ensures q)
+    ∙ ap (λ t. old ++ cond t (ready (is_silent (job_in s q) (worker_of s)) ∷ []) []) (sym c.if-is_ready.true ∙ c.is_ready.ensures.ready q)
 
 pub returns : goal.returns
 returns c q =
     let s = c.args.self.now in
     let old = parcels_of (vec_items c.args.says.now) in
     let ready : Parcel = to_foreman s.me.0 (Ready s.attempt.0 s.round.0 (is_silent (job_in s q) (worker_of s))) in
-    sym (append-nil old) ∙ ap (λ t. old ++ cond t (ready ∷ []) []) (sym c.if-is-ready.false ∙ c.is-ready.ensures.ready q)
+    sym (append-nil old) ∙ ap (λ t. old ++ cond t (ready ∷ []) []) (sym c.if-is_ready.false ∙ c.is_ready.ensures.ready q)

@@ -8,6 +8,6 @@ returns c q =
     record {
       state = refl;
       appends = ap records_of a.appends;
-      says = ap (λ v. parcels_of (vec_items v)) a.says ∙ c.in-ok-says.ensures q;
+      says = ap (λ v. parcels_of (vec_items v)) a.says ∙ c.in_ok-says.ensures q;
       outcome = a.outcome;
     }

@@ -12,19 +12,19 @@ pub returns : goal.returns
 returns g c =
     let q = g.P.Plan.program c.args.plan.now in
     let s = c.args.self.now in
-    let t = c.do-round.new.self in
+    let t = c.do_round.new.self in
     let b = job_in s q in
     let i = s.me.0 in
     let w = worker_of s in
     let did = W.did_work b i (W.with_worked b i w) in
-    let same = c.in-ok-do-round.ensures.same in
-    let worked = c.in-ok-do-round.ensures.worked in
+    let same = c.in_ok-do_round.ensures.same in
+    let worked = c.in_ok-do_round.ensures.worked in
     let a = c.saying-2.ensures in
     let batches : W.says_batches (job_in t q) t.me.0 (worker_of t) ≡ W.says_batches b i (W.with_worked b i w) = λ k. W.says_batches (job_of (same.1 k) q) (same.0 k).0 (worked k) in
     let ready : W.says_ready (job_in t q) t.me.0 (worker_of t) ≡ W.says_ready b i (W.with_worked b i w) = λ k. W.says_ready (job_of (same.1 k) q) (same.0 k).0 (worked k) in
     let leads : did ≡ W.works b i w =
     ap (λ x. cond x did (W.unmoved w (judged only_full))) (sym (lt-ltb s.round.0 round_cap (omega arith)))
-    ∙ ap (λ x. cond x (cond (ltb s.round.0 round_cap) did (W.unmoved w (judged only_full))) (W.unmoved w Taken)) (sym c.if-not-is-idle.false ∙ c.is-idle.ensures) in
+    ∙ ap (λ x. cond x (cond (ltb s.round.0 round_cap) did (W.unmoved w (judged only_full))) (W.unmoved w Taken)) (sym c.if-not-is_idle.false ∙ c.is_idle.ensures) in
     record {
       same = same;
       replied = subst (λ y. Replied y t c.saying-2.result) leads
@@ -32,8 +32,8 @@ returns g c =
             state = worked;
             appends = ap records_of a.appends;
             says = ap (λ v. parcels_of (vec_items v)) a.says
-                ∙ c.in-ok-say-ready.ensures q
-                ∙ (λ k. c.in-ok-say-batches.ensures q k ++ ready k)
+                ∙ c.in_ok-say_ready.ensures q
+                ∙ (λ k. c.in_ok-say_batches.ensures q k ++ ready k)
                 ∙ (λ k. (parcels_of (c.new-says.ensures.items k) ++ batches k) ++ W.says_ready b i (W.with_worked b i w));
             outcome = a.outcome;
           });

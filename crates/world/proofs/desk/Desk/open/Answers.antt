@@ -14,7 +14,7 @@ returns-in-Ok c =
     let s = c.args.self.now in
     let m = c.args.table.now.workers in
     let gives = c.in-Ok.ensures in
-    let down = no_foreman s.foreman (sym c.is-some.ensures ∙ c.if-is-some.false) in
+    let down = no_foreman s.foreman (sym c.is_some.ensures ∙ c.if-is_some.false) in
     let call : (b : Job) → b.workers ≡ m → foreman_call b Open (desk_of s).journal (desk_of s).up ≡ by_foreman (F.opened m (notes_of c.records.result.now)) =
     λ b e k. foreman_call (record { places = b.places; program = b.program; workers = e k; owner = b.owner }) Open (notes_of (sym c.records.ensures k)) (option_map foreman_of (down k)) in
     record {

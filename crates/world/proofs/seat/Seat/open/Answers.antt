@@ -12,17 +12,17 @@ pub returns : goal.returns
 returns g c =
     let s = c.args.self.now in
     let t = c.args.table.now in
-    let u = c.in-ok-copy.copy in
+    let u = c.in_ok-copy.copy in
     let q = g.Self.P.Plan.program c.args.plan.now in
-    let told = c.in-ok-worker.ensures in
-    let x = c.in-ok-worker.worker in
-    let kept = c.in-ok-says.ensures in
-    let down = is_none s.worker (sym c.is-some.ensures ∙ c.if-is-some.false) in
-    let table = table_same u t c.in-ok-copy.ensures in
+    let told = c.in_ok-worker.ensures in
+    let x = c.in_ok-worker.worker in
+    let kept = c.in_ok-says.ensures in
+    let down = is_none s.worker (sym c.is_some.ensures ∙ c.if-is_some.false) in
+    let table = table_same u t c.in_ok-copy.ensures in
     let e = open_same t u q s.me.0 (vec_items s.journal.records) c.records.result.now s.worker down table c.records.ensures in
     let up = sym c.replace.ensures.after in
     record {
-      did = subst (λ o. Did (job_of t q) s.me.0 Open (seat_of s) (record { up = option_map worker_of o; journal = records_of (vec_items c.keep.new.self.records) }) (parcels_of (vec_items c.in-ok-says.says))) up
-          (seat_did (job_of t q) s.me.0 Open (seat_of s) _ x c.in-ok-worker.answer (vec_items s.journal.records) _ _ e told.2 refl kept.0 (ap parcels_of kept.1));
+      did = subst (λ o. Did (job_of t q) s.me.0 Open (seat_of s) (record { up = option_map worker_of o; journal = records_of (vec_items c.keep.new.self.records) }) (parcels_of (vec_items c.in_ok-says.says))) up
+          (seat_did (job_of t q) s.me.0 Open (seat_of s) _ x c.in_ok-worker.answer (vec_items s.journal.records) _ _ e told.2 refl kept.0 (ap parcels_of kept.1));
       sits = (refl, subst (Agrees t s.me.0) up (ap (λ m. m.0) told.0, ap table_of told.1 ∙ table));
     }

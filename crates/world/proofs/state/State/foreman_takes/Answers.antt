@@ -11,6 +11,6 @@ pub returns : goal.returns
 returns c =
     let s = c.args.self.now in
     record {
-      leads = made_map _ _ c.push-all.result c.push-all.ensures (λ _ said q. foreman_acted (job_of s.table q) (Take c.args.parcel.now.from.0 (message_of c.args.parcel.now.kind (letters_of c.args.parcel.now.letters))) s _ _ c.in-ok-says.says c.in-ok-says.ensures.led said);
+      leads = made_map _ _ c.push_all.result c.push_all.ensures (λ _ said q. foreman_acted (job_of s.table q) (Take c.args.parcel.now.from.0 (message_of c.args.parcel.now.kind (letters_of c.args.parcel.now.letters))) s _ _ c.in_ok-says.says c.in_ok-says.ensures.led said);
       same = refl;
     }

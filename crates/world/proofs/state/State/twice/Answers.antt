@@ -11,6 +11,6 @@ returns g c =
     let s = c.args.self.now in
     let q = g.P.Plan.program c.args.plan.now in
     record {
-      leads = made_map _ _ c.hand.result c.hand.ensures.leads (λ _ h. h ∙ doubled_handed (job_of s.table q) s (deque_items c.pop-front.new.self) (deque_items c.push-back.new.self) c.in-Some.parcel _ c.in-Some.ensures.items c.in-ok-push-back.ensures.items c.in-ok-letters.ensures);
+      leads = made_map _ _ c.hand.result c.hand.ensures.leads (λ _ h. h ∙ doubled_handed (job_of s.table q) s (deque_items c.pop_front.new.self) (deque_items c.push_back.new.self) c.in-Some.parcel _ c.in-Some.ensures.items c.in_ok-push_back.ensures.items c.in_ok-letters.ensures);
       same = c.hand.ensures.same;
     }

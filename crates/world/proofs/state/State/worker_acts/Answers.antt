@@ -9,6 +9,6 @@ pub returns : goal.returns
 returns g c =
     let s = c.args.self.now in
     record {
-      leads = made_map _ _ c.push-all.result c.push-all.ensures (λ _ said. worker_acted (job_of s.table (g.P.Plan.program c.args.plan.now)) (call_of c.args.step) s _ _ c.args.i c.in-ok-says.says c.in-ok-says.ensures.moved said);
+      leads = made_map _ _ c.push_all.result c.push_all.ensures (λ _ said. worker_acted (job_of s.table (g.P.Plan.program c.args.plan.now)) (call_of c.args.step) s _ _ c.args.i c.in_ok-says.says c.in_ok-says.ensures.moved said);
       same = refl;
     }

@@ -10,21 +10,21 @@ use Rattle.world.proofs.state.calls.seat_acts.Goals as goal
 
 pub call-requires : goal.call-requires
 call-requires g c =
-    let x = c.index-mut.result.now in
+    let x = c.index_mut.result.now in
     let xs = vec_items c.args.seats.now in
     let lt : c.args.i < length xs = omega (arith, c.args.seats.now.ok.0, c.requires.there) in
-    subst (λ (s : Seat). Sits c.args.table.now s.me.0 s) (sym c.index-mut.ensures.value) (sits_at c.args.table.now xs c.args.i x lt c.requires.seated)
+    subst (λ (s : Seat). Sits c.args.table.now s.me.0 s) (sym c.index_mut.ensures.value) (sits_at c.args.table.now xs c.args.i x lt c.requires.seated)
 
 pub returns : goal.returns
 returns g c =
     let t = c.args.table.now in
-    let x = c.index-mut.result.now in
+    let x = c.index_mut.result.now in
     let xs = vec_items c.args.seats.now in
     let i = c.args.i in
     let job = job_of t (g.P.Plan.program c.args.plan.now) in
     let call = (call_of c.args.step) in
     let y = c.call.new.self in
-    let is : x ≡ get_or xs i x = c.index-mut.ensures.value in
+    let is : x ≡ get_or xs i x = c.index_mut.ensures.value in
     let lt : i < length xs = omega (arith, c.args.seats.now.ok.0, c.requires.there) in
     let sits : Sits t (get_or xs i x).me.0 y = subst (λ (s : Seat). Sits t s.me.0 y) is c.call.ensures.sits in
     record {

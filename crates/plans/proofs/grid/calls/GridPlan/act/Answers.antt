@@ -17,14 +17,14 @@ returns c =
     let r = c.args.given.round.0 in
     let o = post_of c.args.out.now in
     let sends = to_each (be8 y) (around p.width c.args.given.place.0) in
-    let bytes : c.to-be-bytes-stirred.result ≡ be8 y = c.to-be-bytes-stirred.ensures ∙ ap be8 c.stir.ensures ∙ be8_low y in
+    let bytes : c.to_be_bytes-stirred.result ≡ be8 y = c.to_be_bytes-stirred.ensures ∙ ap be8 c.stir.ensures ∙ be8_low y in
     record {
       state = c.written.ensures ∙ bytes;
       rests = refl;
       sent =
           elim c.if-not-rests.branch [
             | then-not-rests w ↦
-                ap post_of w.out-is ∙ w.send-to-each.ensures
+                ap post_of w.out-is ∙ w.send_to_each.ensures
                 ∙ (λ i. mailed o (to_each (bytes i) (w.neighbours.ensures i)))
                 ∙ ap (mailed o) (sym (cond-false (leb p.last r) [] sends (lt-leb p.last r w.if-not-rests.true)))
             | else-not-rests w ↦

@@ -19,13 +19,13 @@ returns g c =
     let l = c.loop-record in
     let rest = l.record-iterator.rest in
     let none : into_iter_items l.record-iterator ≡ [] = nil_from_length (into_iter_items l.record-iterator) (sym rest.ok.0 ∙ c.in-None.ensures.steps.0) in
-    let all : l.yielded ≡ vec_items c.args.owed.appends = sym (append-nil l.yielded) ∙ ap (λ xs. l.yielded ++ xs) (sym none) ∙ l.invariant.3 ∙ c.into_iter-record-iterator.ensures.into_iter-gives.0 in
+    let all : l.yielded ≡ vec_items c.args.owed.appends = sym (append-nil l.yielded) ∙ ap (λ xs. l.yielded ++ xs) (sym none) ∙ l.invariant.3 ∙ c.into_iter-record-iterator.ensures.into_iter_gives.0 in
     (l.invariant.2 ∙ ap (λ xs. vec_items c.args.self.now.records ++ xs) all, refl)
 
 pub returns-in_err-push : goal.returns-in_err-push
 returns-in_err-push g c =
     let l = c.loop-record in
     let front : take (length l.yielded) (vec_items c.args.owed.appends) ≡ l.yielded =
-    ap (take (length l.yielded)) (sym (l.invariant.3 ∙ c.into_iter-record-iterator.ensures.into_iter-gives.0)) ∙ take_at l.yielded (into_iter_items l.record-iterator) (length l.yielded) refl in
+    ap (take (length l.yielded)) (sym (l.invariant.3 ∙ c.into_iter-record-iterator.ensures.into_iter_gives.0)) ∙ take_at l.yielded (into_iter_items l.record-iterator) (length l.yielded) refl in
     let p = err_from_is_err_and c.from_residual.result c.from_residual.ensures.1 in
     rw p.1 (length l.yielded, c.in_err-push.ensures.items ∙ l.invariant.2 ∙ ap (λ xs. vec_items c.args.self.now.records ++ xs) (sym front))

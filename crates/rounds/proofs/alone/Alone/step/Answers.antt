@@ -21,16 +21,11 @@ invariant_of-self-2 g c =
     c.in-Ok.ensures.worked
     ∙ (λ i. turns_below (places i) q r (world_of (record { states = items s.states; rests = old i; post = received s.inbox })) ((ap length old ∙ s.told) i)) in
     let states : items c.swap.new.x ≡ (turns_below s.places q r w s.places).states = ap items c.swap.ensures.x_after ∙ (λ i. (worked i).states) in
-    let rests : vec_items c.swap-2.new.x ≡ (turns_below s.places q r w s.places).rests = ap vec_items c.swap-2.ensures.x_after ∙ (λ i. (worked i).rests) in (
-      s.few,
-      (
-        ap length states ∙ length-map-range_with_len (λ v. (turn_at s.places q r w v).state) 0 s.places,
-        (
-          ap length rests ∙ length-map-range_with_len (λ v. (turn_at s.places q r w v).rests) 0 s.places,
-          (
-            subst Capped (sym states) (turns_fit s.places q (λ x h. g.met.P.Plan.fits c.args.plan.now x h) r w s.places s.fits),
-            (ap (λ (p : Post). p.places) c.in-Ok-receive.ensures.left ∙ c.in-Ok.ensures.places ∙ places, tt),
-          ),
-        ),
-      ),
-    )
+    let rests : vec_items c.swap-2.new.x ≡ (turns_below s.places q r w s.places).rests = ap vec_items c.swap-2.ensures.x_after ∙ (λ i. (worked i).rests) in
+    record {
+      few = s.few;
+      known = ap length states ∙ length-map-range_with_len (λ v. (turn_at s.places q r w v).state) 0 s.places;
+      told = ap length rests ∙ length-map-range_with_len (λ v. (turn_at s.places q r w v).rests) 0 s.places;
+      fits = subst Capped (sym states) (turns_fit s.places q (λ x h. g.met.P.Plan.fits c.args.plan.now x h) r w s.places s.fits);
+      beside = ap (λ (p : Post). p.places) c.in-Ok-receive.ensures.left ∙ c.in-Ok.ensures.places ∙ places;
+    }

@@ -23,16 +23,14 @@ pub invariant_of-result : goal.invariant_of-result
 invariant_of-result g c =
     let n = c.args.places in
     let f : ℕ → List ℕ = (g.P.Plan.program c.args.plan.now).first in
-    let states : items c.in_ok-states.states ≡ map f (range_with_len 0 n) = c.in_ok-states.ensures in (
-      c.requires,
-      (
-        ap length states ∙ length-map-range_with_len f 0 n,
-        (
-          sym c.resize.new.self.ok.0 ∙ c.in_ok-resize.ensures.len,
-          (subst Capped (sym states) (firsts_fit f n (λ v. g.met.P.Plan.first_fits c.args.plan.now v)), (c.in_ok-next.ensures.1, tt)),
-        ),
-      ),
-    )
+    let states : items c.in_ok-states.states ≡ map f (range_with_len 0 n) = c.in_ok-states.ensures in
+    record {
+      few = c.requires;
+      known = ap length states ∙ length-map-range_with_len f 0 n;
+      told = sym c.resize.new.self.ok.0 ∙ c.in_ok-resize.ensures.len;
+      fits = subst Capped (sym states) (firsts_fit f n (λ v. g.met.P.Plan.first_fits c.args.plan.now v));
+      beside = c.in_ok-next.ensures.1;
+    }
 
 pub returns : goal.returns
 returns g c =

@@ -10,6 +10,7 @@ use progress::Progress;
 use rounds::{Alone, Fault, run};
 use seals::{EchoCrew, GridCrew, ScrambleCrew, SumCrew};
 use std::io::{Read, Write};
+use std::process::ExitCode;
 use world::Seal;
 
 const BLOCK: usize = 65536;
@@ -140,10 +141,10 @@ fn rehearse(rt: &HostRuntime) -> anyhow::Result<bool> {
 }
 
 // The status is 0 only where the script was played.
-fn main(rt: HostRuntime) -> anyhow::Result<()> {
+fn main(rt: HostRuntime) -> anyhow::Result<ExitCode> {
     if rehearse(&rt)? {
-        Ok(())
+        Ok(ExitCode::SUCCESS)
     } else {
-        Err(anyhow!("the script is bad"))
+        Ok(ExitCode::FAILURE)
     }
 }

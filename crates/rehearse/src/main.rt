@@ -8,6 +8,7 @@ use progress::Progress;
 use rounds::{Alone, Fault, run};
 use script::{Choice, Complaint, Reading, Script};
 use std::io::{Read, Write};
+use std::process::ExitCode;
 
 const BLOCK: usize = 65536;
 
@@ -126,10 +127,10 @@ fn rehearse(rt: &HostRuntime) -> anyhow::Result<bool> {
 }
 
 // The status is 0 only where the script was played.
-fn main(rt: HostRuntime) -> anyhow::Result<()> {
+fn main(rt: HostRuntime) -> anyhow::Result<ExitCode> {
     if rehearse(&rt)? {
-        Ok(())
+        Ok(ExitCode::SUCCESS)
     } else {
-        Err(anyhow!("the script is bad"))
+        Ok(ExitCode::FAILURE)
     }
 }

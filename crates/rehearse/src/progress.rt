@@ -1,6 +1,7 @@
 // Progress on standard error, where that is a terminal.
 use meaning::Round;
 use rounds::Watch;
+use std::io::IsTerminal;
 use std::time::Instant;
 
 #[derive(Drop)]
@@ -16,7 +17,7 @@ impl Progress {
         Ok(Progress {
             rt: rt.clone()?,
             last: Instant::now(rt)?,
-            terminal: libc::isatty(2) == 1,
+            terminal: rt.stderr().is_terminal(),
             shown: false,
         })
     }

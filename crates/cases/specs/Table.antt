@@ -1,11 +1,11 @@
 -- The table of cases, and that every row comes to what it expects.
 -- Assumes nothing.
-use Rattle.std.specs.Prelude.{ℕ, Bool, true, false, List, [], ◌∷◌}
+use Rattle.std.specs.Prelude.{ℕ, true, false, List, [], ◌∷◌}
 use Rattle.std.specs.List.{AllByRecursion as All}
-use Rattle.meaning.specs.Meaning.{Program, Input, Output}
+use Rattle.meaning.specs.Meaning.{Program}
 use Rattle.plans.specs.Echo.{keeping}
 use Rattle.plans.specs.Sum.{adding}
-use Rattle.cases.specs.Rows.{Row, Happening, alone, Expected, state, letters, resting, over, Holds}
+use Rattle.cases.specs.Rows.{Row, alone, Expected, state, letters, resting, over, Holds}
 
 -- one machine has all
 abbrev pub one : ℕ → ℕ

@@ -1,10 +1,10 @@
 -- What a round makes of n places depends on what is there of them alone.
-use Rattle.std.proofs.Common.{◌≡◌, ℕ, zero, suc, ◌+◌, ◌<◌, ◌≤◌, Bool, true, false, cond, ◌&&◌, List, [], ◌∷◌, ◌++◌, map, length, get_or, sym, refl, ap, ◌∙◌, subst, ⊎_elim, arith}
+use Rattle.std.proofs.Common.{◌≡◌, ℕ, zero, suc, ◌<◌, ◌≤◌, Bool, false, ◌&&◌, [], ◌++◌, map, sym, refl, ap, ◌∙◌, subst, ⊎_elim, arith}
 use Rattle.std.specs.List.{range_with_len}
 use Rattle.std.proofs.lemmas.List.FromFn.{get_or-map-range_with_len, length-map-range_with_len}
 use Rattle.std.proofs.lemmas.List.{ext_get_or}
 use Rattle.std.proofs.lemmas.Bool.{and_left, and_right, cases_eq}
-use Rattle.meaning.specs.Meaning.{Program, Letter, Turn, World, View, letters_for, input_at, turn, turn_at, sent_below, round, all_rest, is_over, none, seen}
+use Rattle.meaning.specs.Meaning.{Program, Turn, World, letters_for, turn, turn_at, sent_below, round, all_rest, is_over, none, seen}
 use Rattle.meaning.specs.Laws.{Agree}
 
 -- two functions that agree below n list alike

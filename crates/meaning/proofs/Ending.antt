@@ -1,7 +1,7 @@
 -- Once over it stays so, and it isn't over while anything is left to do.
 use Rattle.std.proofs.Common.{◌≡◌, ℕ, zero, suc, ◌+◌, ◌<◌, ◌≤◌, Bool, true, false, cond, ◌&&◌, List, [], ◌∷◌, ◌++◌, sym, refl, ap, ◌∙◌, subst, ⊎_elim, add-zero, add-suc, arith}
-use Rattle.std.proofs.lemmas.Bool.{and_parts, and_left, and_right, cases_eq, true≢false}
-use Rattle.meaning.specs.Meaning.{Letter, Program, Turn, World, letters_for, none, input_at, acted, turn, turn_at, sent_below, round, rounds, all_rest, is_over, seen}
+use Rattle.std.proofs.lemmas.Bool.{and_parts, and_right, cases_eq, true≢false}
+use Rattle.meaning.specs.Meaning.{Letter, Program, World, letters_for, none, input_at, acted, turn_at, sent_below, round, rounds, all_rest, is_over, seen}
 use Rattle.meaning.specs.Laws.{Agree, OnItsOwn, OverStays, NotWhileAwake, NotWhileUnderWay}
 use Rattle.meaning.proofs.Agreeing.{turn_agrees, listed, over_agrees, one_awake}
 

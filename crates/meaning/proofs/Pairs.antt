@@ -1,9 +1,8 @@
 -- Heads beside bodies: one more of each, and what stands where.
-use Rattle.std.proofs.Common.{◌≡◌, ℕ, zero, suc, ◌+◌, ◌<◌, ◌≤◌, Bool, true, false, cond, List, [], ◌∷◌, ◌++◌, length, get_or, sym, refl, ap, ◌∙◌, subst, ⊎_elim, arith, length-append}
+use Rattle.std.proofs.Common.{◌≡◌, ℕ, zero, suc, ◌<◌, Bool, true, false, cond, List, [], ◌∷◌, ◌++◌, length, get_or, sym, refl, ap, subst, ⊎_elim, arith, length-append}
 use Rattle.std.proofs.lemmas.List.{get_or_append_left, get_or_push}
 use Rattle.std.proofs.lemmas.Bool.{cases_lt}
 use Rattle.meaning.specs.declared.letters.Head.{Head}
-use Rattle.meaning.specs.Meaning.{Letter}
 use Rattle.meaning.specs.Packets.{letter_of, paired, nobody, blank, There}
 
 pub length_paired : (hs : List Head) (bs : List (List ℕ)) → length hs ≡ length bs → length (paired hs bs) ≡ length hs

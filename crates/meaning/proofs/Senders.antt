@@ -1,10 +1,10 @@
 -- Letters come by rising senders, and exactly those that were sent.
-use Rattle.std.proofs.Common.{◌≡◌, ℕ, zero, suc, ◌+◌, ◌<◌, ◌≤◌, Bool, true, false, cond, ◌&&◌, eqb, ltb, List, [], ◌∷◌, ◌++◌, map, filter, sym, refl, ap, ◌∙◌, subst, ⊎_elim, append-nil, arith}
+use Rattle.std.proofs.Common.{◌≡◌, ℕ, zero, suc, ◌<◌, ◌≤◌, Bool, true, false, cond, ◌&&◌, eqb, ltb, List, [], ◌∷◌, ◌++◌, filter, sym, refl, ap, ◌∙◌, subst, ⊎_elim, append-nil, arith}
 use Rattle.std.specs.List.{AllByRecursion as All}
 use Rattle.std.proofs.lemmas.List.Elements.{filter-append}
 use Rattle.std.proofs.ByRecursion.{All-append, All-weaker, all_kept_by}
 use Rattle.std.proofs.lemmas.Bool.{eq-eqb, ne_eqb, ltb-true, cases_eq}
-use Rattle.meaning.specs.Meaning.{Letter, Sent, Program, Turn, World, letters_for, posted, none, input_at, acted, turn_at, sent_below, rounds}
+use Rattle.meaning.specs.Meaning.{Letter, Sent, Program, World, letters_for, posted, none, input_at, acted, turn_at, sent_below, rounds}
 use Rattle.meaning.specs.Laws.{Rising, sent_by, ByRisingSenders, OnlyToThere}
 
 -- what a filter keeps where all pass, or none does

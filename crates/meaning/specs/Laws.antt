@@ -1,8 +1,8 @@
 -- Laws of the meaning: what must hold of it whichever way it is written down.
 -- Assumes nothing.
-use Rattle.std.specs.Prelude.{◌≡◌, ℕ, zero, suc, ◌+◌, ◌<◌, ◌≤◌, Bool, true, false, List, [], ◌∷◌, ◌++◌, map, filter, nat_eq}
+use Rattle.std.specs.Prelude.{◌≡◌, ℕ, suc, ◌+◌, ◌<◌, ◌≤◌, true, false, List, [], ◌∷◌, filter, nat_eq}
 use Rattle.std.specs.List.{AllByRecursion as All}
-use Rattle.meaning.specs.Meaning.{Letter, Program, Turn, World, letters_for, turn_at, rounds, is_over, seen}
+use Rattle.meaning.specs.Meaning.{Letter, Program, World, letters_for, turn_at, rounds, is_over, seen}
 
 -- Two worlds that agree on n places and on the letters under way.
 pub record Agree (n : ℕ) (a b : World) : Type 0 where

@@ -1,6 +1,6 @@
 -- What places are after so many rounds, as if one machine did it all. Nothing of workers.
 -- Assumes nothing.
-use Rattle.std.specs.Prelude.{◌≡◌, ℕ, zero, suc, ◌<◌, ◌≤◌, Bool, true, false, cond, ◌&&◌, List, [], ◌∷◌, ◌++◌, map, length, filter, nat_eq, nat_lt}
+use Rattle.std.specs.Prelude.{ℕ, zero, suc, ◌≤◌, Bool, true, false, cond, ◌&&◌, List, [], ◌∷◌, ◌++◌, map, length, filter, nat_eq, nat_lt}
 use Rattle.std.specs.List.{range_with_len, AllByRecursion as All}
 use Rattle.meaning.specs.Caps.{state_cap, send_cap, letter_cap}
 

@@ -1,4 +1,6 @@
 // What places are after so many rounds: numbers, letters, plans, and the run by one machine.
+#![tactic(auto)]
+
 mod group;
 mod inbox;
 pub mod laws;

@@ -1,6 +1,6 @@
 -- Byte strings laid end to end in one pool, with a table of where each begins and the last ends.
 -- Assumes nothing.
-use Rattle.std.specs.Prelude.{◌≡◌, ℕ, ◌+◌, ◌-◌, ◌<◌, ◌≤◌, List, map, length, slice_index}
+use Rattle.std.specs.Prelude.{ℕ, ◌+◌, ◌-◌, ◌<◌, ◌≤◌, List, map, length, slice_index}
 use Rattle.std.specs.List.{between, range_with_len}
 
 -- cuts never fall

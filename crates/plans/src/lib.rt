@@ -1,4 +1,6 @@
 // The plans that come with the engine: three to test it with, and one to measure it with.
+#![tactic(auto)]
+
 mod bytes;
 mod digest;
 mod echo;

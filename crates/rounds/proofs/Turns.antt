@@ -1,11 +1,11 @@
 -- One place more, and all of them.
-use Rattle.std.proofs.Common.{◌≡◌, ℕ, zero, suc, ◌+◌, ◌<◌, ◌≤◌, Bool, true, false, cond, ◌&&◌, List, [], ◌∷◌, ◌++◌, map, length, get_or, sym, refl, ap, ◌∙◌, subst, ⊎_elim, add-one, arith}
+use Rattle.std.proofs.Common.{◌≡◌, ℕ, ◌+◌, ◌≤◌, Bool, true, false, cond, ◌&&◌, [], map, length, sym, ap, subst, ⊎_elim, add-one, arith}
 use Rattle.std.specs.List.{range_with_len}
 use Rattle.std.proofs.lemmas.List.FromFn.{map-range_with_len_more, get_or-map-range_with_len, length-map-range_with_len}
 use Rattle.std.proofs.lemmas.List.{get_or_past}
 use Rattle.std.proofs.lemmas.Bool.{cases_lt}
 use Rattle.meaning.specs.Caps.{state_cap}
-use Rattle.meaning.specs.Meaning.{Program, Input, Fits, World, View, letters_for, none, input_at, acted, turn_at, sent_below}
+use Rattle.meaning.specs.Meaning.{Program, Input, Fits, World, letters_for, none, input_at, acted, turn_at, sent_below}
 use Rattle.rounds.specs.Sight.{added, turns_below, Capped}
 
 pub turns_more : (n : ℕ) (q : Program) (r : ℕ) (w : World) (c : ℕ) → turns_below n q r w (c + 1) ≡ added (turns_below n q r w c) (turn_at n q r w c)

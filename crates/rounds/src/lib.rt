@@ -1,4 +1,6 @@
 // One round for all places, and the run by one machine alone.
+#![tactic(auto)]
+
 mod alone;
 mod worked;
 

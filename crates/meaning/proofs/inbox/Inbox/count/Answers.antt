@@ -1,4 +1,4 @@
-use Rattle.std.proofs.Common.{length, vec_items, sym, ap, ◌∙◌, arith}
+use Rattle.std.proofs.Common.{length, vec_items, sym, ap, ◌∙◌}
 use Rattle.packed.specs.Strings.{items}
 use Rattle.meaning.proofs.Finding.{length_letters}
 use Rattle.meaning.proofs.inbox.Inbox.count.Goals as goal

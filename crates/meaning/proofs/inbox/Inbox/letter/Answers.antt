@@ -1,4 +1,4 @@
-use Rattle.std.proofs.Common.{◌≡◌, ℕ, ◌<◌, ◌≤◌, List, length, get_or, Some, None, vec_items, Option, sym, refl, ap, ◌∙◌, subst, arith, MatchOption}
+use Rattle.std.proofs.Common.{◌≡◌, ℕ, ◌<◌, ◌≤◌, List, length, get_or, Some, None, vec_items, Option, sym, ap, ◌∙◌, arith, MatchOption}
 use Rattle.packed.specs.Strings.{items}
 use Rattle.meaning.specs.declared.letters.Received.{Received}
 use Rattle.meaning.specs.Meaning.{Letter, letters_for}

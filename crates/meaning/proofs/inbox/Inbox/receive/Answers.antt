@@ -1,4 +1,4 @@
-use Rattle.std.proofs.Common.{◌≡◌, vec_items, sym, ap, ◌∙◌, subst}
+use Rattle.std.proofs.Common.{vec_items, ap, ◌∙◌, subst}
 use Rattle.meaning.specs.declared.letters.Letters.{Letters}
 use Rattle.meaning.specs.Groups.{Indexed}
 use Rattle.meaning.proofs.Finding.{kept}

@@ -1,4 +1,4 @@
-use Rattle.std.proofs.Common.{◌≡◌, vec_items, arith}
+use Rattle.std.proofs.Common.{vec_items, arith}
 use Rattle.packed.specs.Strings.{items}
 use Rattle.meaning.proofs.Pairs.{length_paired}
 use Rattle.meaning.proofs.letters.Letters.len.Goals as goal

@@ -1,4 +1,4 @@
-use Rattle.std.proofs.Common.{◌≡◌, ℕ, ◌+◌, ◌-◌, ◌<◌, List, length, vec_items, sym, ap, ◌∙◌, arith}
+use Rattle.std.proofs.Common.{◌-◌, ◌<◌, length, vec_items, sym, ◌∙◌, arith}
 use Rattle.packed.proofs.Packing.{length_strings, get_or_strings}
 use Rattle.packed.specs.Cut.{string_at}
 use Rattle.packed.proofs.store.Strings.get.Goals as goal

@@ -1,4 +1,4 @@
-use Rattle.std.proofs.Common.{◌≡◌, ◌-◌, vec_items, sym, ap, ◌∙◌, arith}
+use Rattle.std.proofs.Common.{vec_items, arith}
 use Rattle.packed.proofs.Packing.{length_strings}
 use Rattle.packed.proofs.store.Strings.len.Goals as goal
 

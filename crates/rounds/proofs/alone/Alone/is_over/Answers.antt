@@ -1,6 +1,5 @@
-use Rattle.std.proofs.Common.{◌≡◌, Bool, true, false, ◌&&◌, length, get_or, vec_items, sym, ap, ◌∙◌}
-use Rattle.meaning.specs.Meaning.{all_rest, none}
-use Rattle.meaning.specs.Mail.{received}
+use Rattle.std.proofs.Common.{◌≡◌, false, ◌&&◌, length, get_or, vec_items, sym, ap, ◌∙◌}
+use Rattle.meaning.specs.Meaning.{all_rest}
 use Rattle.rounds.proofs.alone.Alone.is_over.Goals as goal
 
 pub returns-then-is_empty : goal.returns-then-is_empty

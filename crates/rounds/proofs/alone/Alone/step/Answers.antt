@@ -1,8 +1,8 @@
-use Rattle.std.proofs.Common.{◌≡◌, ℕ, List, length, vec_items, sym, refl, ap, ◌∙◌, subst, arith}
+use Rattle.std.proofs.Common.{◌≡◌, length, vec_items, sym, ap, ◌∙◌, subst}
 use Rattle.std.proofs.lemmas.List.FromFn.{length-map-range_with_len}
 use Rattle.packed.specs.Strings.{items}
 use Rattle.meaning.specs.Mail.{Post, received}
-use Rattle.meaning.specs.Meaning.{View, turn_at}
+use Rattle.meaning.specs.Meaning.{turn_at}
 use Rattle.rounds.specs.Sight.{world_of, turns_below, Capped}
 use Rattle.rounds.specs.Work.{worked_of, places_of}
 use Rattle.rounds.specs.Run.{view_of}

@@ -1,4 +1,4 @@
-use Rattle.std.proofs.Common.{◌≡◌, ℕ, Bool, false, length, get_or, sym, ap, ◌∙◌, add-one}
+use Rattle.std.proofs.Common.{ℕ, Bool, false, length, get_or, sym, ap, ◌∙◌, add-one}
 use Rattle.std.proofs.lemmas.Bool.{and_from}
 use Rattle.meaning.specs.Meaning.{all_rest}
 use Rattle.meaning.proofs.Agreeing.{one_awake}

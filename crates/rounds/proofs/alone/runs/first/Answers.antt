@@ -1,4 +1,4 @@
-use Rattle.std.proofs.Common.{◌≡◌, ℕ, ◌-◌, ◌≤◌, Bool, false, List, [], ◌++◌, map, length, take, replicate, vec_items, vec_len, sym, refl, ap, ◌∙◌, subst, ⊎_elim, arith}
+use Rattle.std.proofs.Common.{◌≡◌, ℕ, ◌-◌, ◌≤◌, false, List, [], ◌++◌, map, length, take, replicate, vec_items, vec_len, sym, refl, ap, ◌∙◌, subst, ⊎_elim, arith}
 use lib.Seq.{take-nil}
 use Rattle.std.specs.List.{range_with_len}
 use Rattle.std.proofs.lemmas.List.FromFn.{length-map-range_with_len, get_or-map-range_with_len}
@@ -6,7 +6,6 @@ use Rattle.std.proofs.lemmas.List.{get_or_past}
 use Rattle.std.proofs.lemmas.Bool.{cases_lt}
 use Rattle.packed.specs.Strings.{items}
 use Rattle.meaning.specs.Caps.{state_cap}
-use Rattle.meaning.specs.Meaning.{start, seen}
 use Rattle.rounds.specs.Sight.{Capped}
 use Rattle.rounds.proofs.Standing.{start_is, none_rest}
 use Rattle.rounds.proofs.alone.runs.first.Goals as goal

@@ -1,5 +1,5 @@
-use Rattle.std.proofs.Common.{◌≡◌, ℕ, suc, ◌+◌, ◌-◌, ◌<◌, ◌≤◌, Bool, true, false, sym, refl, ap, ◌∙◌, subst, add-one, arith}
-use Rattle.meaning.specs.Meaning.{Program, View, round, rounds, is_over, ends_from, seen}
+use Rattle.std.proofs.Common.{◌≡◌, ℕ, ◌+◌, ◌-◌, ◌<◌, sym, ap, ◌∙◌, add-one, arith}
+use Rattle.meaning.specs.Meaning.{Program, round, rounds, is_over, ends_from, seen}
 use Rattle.rounds.specs.Sight.{world_of}
 use Rattle.rounds.specs.Run.{view_of, Stands}
 use Rattle.rounds.specs.declared.alone.Alone.{Alone}

@@ -1,9 +1,9 @@
-use Rattle.std.proofs.Common.{◌≡◌, false, get_or, sym, refl, ap, ◌∙◌, subst}
+use Rattle.std.proofs.Common.{false, get_or, sym, ◌∙◌}
 use Rattle.packed.specs.Strings.{items}
 use Rattle.meaning.specs.Mail.{received}
 use Rattle.meaning.specs.Meaning.{turn}
-use Rattle.rounds.specs.Sight.{world_of, turns_below, added, input_from}
-use Rattle.rounds.specs.Work.{worked_of, places_of}
+use Rattle.rounds.specs.Sight.{world_of, added, input_from}
+use Rattle.rounds.specs.Work.{places_of}
 use Rattle.rounds.proofs.Turns.{turns_more}
 use Rattle.rounds.proofs.worked.Worked.work.Goals as goal
 

@@ -2,7 +2,7 @@
 -- definitions that the code's contracts cite.
 -- Assumes nothing.
 use Rattle.std.specs.Prelude.{◌≡◌, ℕ, Bool, List, map}
-use Rattle.std.specs.List.{AllByRecursion as All}
+use Rattle.std.specs.List.{AllByRecursion}
 use Rattle.meaning.specs.Meaning.{Letter, Program, World, letters_for, rounds, all_rest, is_over}
 
 -- so many rounds by one machine alone
@@ -33,4 +33,4 @@ Met n w (resting b) = all_rest n w.rests ≡ b
 Met n w (over b) = is_over n w ≡ b
 
 abbrev pub Holds : Row → Type 0
-Holds r = All (Met r.places (outcome r)) r.expects
+Holds r = AllByRecursion (Met r.places (outcome r)) r.expects

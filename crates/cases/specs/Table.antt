@@ -1,7 +1,7 @@
 -- The table of cases, and that every row comes to what it expects.
 -- Assumes nothing.
 use Rattle.std.specs.Prelude.{ℕ, true, false, List, [], ◌∷◌}
-use Rattle.std.specs.List.{AllByRecursion as All}
+use Rattle.std.specs.List.{AllByRecursion}
 use Rattle.meaning.specs.Meaning.{Program}
 use Rattle.plans.specs.Echo.{keeping}
 use Rattle.plans.specs.Sum.{adding}
@@ -32,4 +32,4 @@ table =
     ∷ []
 
 abbrev pub EveryRowHolds : Type 0
-EveryRowHolds = All Holds table
+EveryRowHolds = AllByRecursion Holds table

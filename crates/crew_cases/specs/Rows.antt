@@ -2,7 +2,7 @@
 -- definitions that the code's contracts cite.
 -- Assumes nothing.
 use Rattle.std.specs.Prelude.{◌≡◌, ℕ, Bool, List, [], ◌∷◌, map, length, Some, None, filter, Option, nat_eq, slice_index_or}
-use Rattle.std.specs.List.{range_with_len, AllByRecursion as All}
+use Rattle.std.specs.List.{range_with_len, AllByRecursion}
 use Rattle.meaning.specs.Meaning.{Letter, Program, World, letters_for, rounds, all_rest, is_over}
 use Rattle.crew.specs.Foreman.{Foreman}
 use Rattle.crew.specs.Job.{Job}
@@ -66,7 +66,7 @@ abbrev pub up_at : Crew.World → ℕ → Option Worker
 up_at w i = (w.worker i).up
 
 abbrev pub EachBelow : ℕ → (ℕ → Type 0) → Type 0
-EachBelow m f = All f (range_with_len 0 m)
+EachBelow m f = AllByRecursion f (range_with_len 0 m)
 
 abbrev pub MetCrew : Job → Crew.World → Expected → Type 0
 MetCrew b w (state v s) = worker_and (up_at w (b.owner v)) (λ x. slice_index_or x.share.states (rank_of b v) [] ≡ s)
@@ -80,6 +80,6 @@ MetCrew b w (comes_to i j x c) = worker_and (up_at w i) (λ y. outcome_number (t
 abbrev pub Holds : Row → Type 0
 Holds r =
     elim r.happens [
-      | alone k ↦ All (MetAlone r.places (rounds r.places r.plan k)) r.expects
-      | crew m es ↦ All (MetCrew (job_of r m) (plays (job_of r m) es Crew.began)) r.expects
+      | alone k ↦ AllByRecursion (MetAlone r.places (rounds r.places r.plan k)) r.expects
+      | crew m es ↦ AllByRecursion (MetCrew (job_of r m) (plays (job_of r m) es Crew.began)) r.expects
     ]

@@ -1,7 +1,7 @@
 -- The table of cases, and that every row comes to what it expects.
 -- Assumes nothing.
 use Rattle.std.specs.Prelude.{ℕ, ◌+◌, ◌/◌, ◌%◌, Bool, true, false, List, [], ◌∷◌, ◌++◌, length}
-use Rattle.std.specs.List.{AllByRecursion as All}
+use Rattle.std.specs.List.{AllByRecursion}
 use Rattle.meaning.specs.Meaning.{Letter, Program, Input, Output}
 use Rattle.crew.specs.Messages.{Batch}
 use Rattle.plans.specs.Echo.{keeping}
@@ -68,4 +68,4 @@ table =
     ∷ []
 
 abbrev pub EveryRowHolds : Type 0
-EveryRowHolds = All Holds table
+EveryRowHolds = AllByRecursion Holds table

@@ -1,6 +1,6 @@
 -- Letters come by rising senders, and exactly those that were sent.
 use Rattle.std.proofs.Common.{◌≡◌, ℕ, zero, suc, ◌<◌, ◌≤◌, Bool, true, false, cond, ◌&&◌, eqb, ltb, List, [], ◌∷◌, ◌++◌, filter, sym, refl, ap, ◌∙◌, subst, ⊎_elim, append-nil, arith}
-use Rattle.std.specs.List.{AllByRecursion as All}
+use Rattle.std.specs.List.{AllByRecursion}
 use Rattle.std.proofs.lemmas.List.Elements.{filter-append}
 use Rattle.std.proofs.ByRecursion.{All-append, All-weaker, all_kept_by}
 use Rattle.std.proofs.lemmas.Bool.{eq-eqb, ne_eqb, ltb-true, cases_eq}
@@ -8,40 +8,40 @@ use Rattle.meaning.specs.Meaning.{Letter, Sent, Program, World, letters_for, pos
 use Rattle.meaning.specs.Laws.{Rising, sent_by, ByRisingSenders, OnlyToThere}
 
 -- what a filter keeps where all pass, or none does
-pub all_pass : {X : Type 0} (p : X → Bool) (xs : List X) → All (λ x. p x ≡ true) xs → filter p xs ≡ xs
+pub all_pass : {X : Type 0} (p : X → Bool) (xs : List X) → AllByRecursion (λ x. p x ≡ true) xs → filter p xs ≡ xs
 all_pass p [] h = refl
 all_pass p (x ∷ xs) (h, hs) = ap (λ b. cond b (x ∷ filter p xs) (filter p xs)) h ∙ ap (λ l. x ∷ l) (all_pass p xs hs)
 
-pub none_pass : {X : Type 0} (p : X → Bool) (xs : List X) → All (λ x. p x ≡ false) xs → filter p xs ≡ []
+pub none_pass : {X : Type 0} (p : X → Bool) (xs : List X) → AllByRecursion (λ x. p x ≡ false) xs → filter p xs ≡ []
 none_pass p [] h = refl
 none_pass p (x ∷ xs) (h, hs) = ap (λ b. cond b (x ∷ filter p xs) (filter p xs)) h ∙ none_pass p xs hs
 
 -- what a place posts is from it, and to places that are there
-posted_is : (n v : ℕ) (ss : List Sent) → All (λ (l : Letter). (l.from ≡ v) × (l.to < n)) (posted n v ss)
+posted_is : (n v : ℕ) (ss : List Sent) → AllByRecursion (λ (l : Letter). (l.from ≡ v) × (l.to < n)) (posted n v ss)
 posted_is n v [] = tt
 posted_is n v (s ∷ ss) = go (ltb s.to n) refl (posted_is n v ss)
   where
-    go : (b : Bool) → ltb s.to n ≡ b → All (λ (l : Letter). (l.from ≡ v) × (l.to < n)) (posted n v ss) →
-        All (λ (l : Letter). (l.from ≡ v) × (l.to < n)) (cond b (record { from = v; to = s.to; bytes = s.bytes } ∷ posted n v ss) (posted n v ss))
+    go : (b : Bool) → ltb s.to n ≡ b → AllByRecursion (λ (l : Letter). (l.from ≡ v) × (l.to < n)) (posted n v ss) →
+        AllByRecursion (λ (l : Letter). (l.from ≡ v) × (l.to < n)) (cond b (record { from = v; to = s.to; bytes = s.bytes } ∷ posted n v ss) (posted n v ss))
     go true e rest = ((refl, ltb-true s.to n e), rest)
     go false e rest = rest
 
 module _ (n : ℕ) (q : Program) (r : ℕ) (w : World) where
-  sent_is : (v : ℕ) → All (λ (l : Letter). (l.from ≡ v) × (l.to < n)) (turn_at n q r w v).sent
+  sent_is : (v : ℕ) → AllByRecursion (λ (l : Letter). (l.from ≡ v) × (l.to < n)) (turn_at n q r w v).sent
   sent_is v = go (w.rests v && none (letters_for v w.post))
     where
-      go : (b : Bool) → All (λ (l : Letter). (l.from ≡ v) × (l.to < n)) (cond b (record { state = w.state v; rests = true; sent = [] }) (acted n q (input_at r w v))).sent
+      go : (b : Bool) → AllByRecursion (λ (l : Letter). (l.from ≡ v) × (l.to < n)) (cond b (record { state = w.state v; rests = true; sent = [] }) (acted n q (input_at r w v))).sent
       go true = tt
       go false = posted_is n v (q.does (input_at r w v)).sends
 
-  pub from_there : (v : ℕ) → All (λ (l : Letter). l.from ≡ v) (turn_at n q r w v).sent
+  pub from_there : (v : ℕ) → AllByRecursion (λ (l : Letter). l.from ≡ v) (turn_at n q r w v).sent
   from_there v = All-weaker (λ (l : Letter). (l.from ≡ v) × (l.to < n)) (λ (l : Letter). l.from ≡ v) (λ l h. h.0) (turn_at n q r w v).sent (sent_is v)
 
-  pub to_there : (c : ℕ) → All (λ (l : Letter). l.to < n) (sent_below n q r w c)
+  pub to_there : (c : ℕ) → AllByRecursion (λ (l : Letter). l.to < n) (sent_below n q r w c)
   to_there zero = tt
   to_there (suc c) = All-append (λ (l : Letter). l.to < n) (sent_below n q r w c) (turn_at n q r w c).sent (to_there c) (All-weaker (λ (l : Letter). (l.from ≡ c) × (l.to < n)) (λ (l : Letter). l.to < n) (λ l h. h.1) (turn_at n q r w c).sent (sent_is c))
 
-  pub below_sends : (c : ℕ) → All (λ (l : Letter). l.from < c) (sent_below n q r w c)
+  pub below_sends : (c : ℕ) → AllByRecursion (λ (l : Letter). l.from < c) (sent_below n q r w c)
   below_sends zero = tt
   below_sends (suc c) =
       All-append (λ (l : Letter). l.from < suc c) (sent_below n q r w c) (turn_at n q r w c).sent
@@ -80,11 +80,11 @@ module _ (n : ℕ) (q : Program) (r : ℕ) (w : World) where
       (cases_eq u c)
 
   -- by rising senders
-  rising_one : (v : ℕ) (ls : List Letter) → All (λ (l : Letter). l.from ≡ v) ls → Rising ls
+  rising_one : (v : ℕ) (ls : List Letter) → AllByRecursion (λ (l : Letter). l.from ≡ v) ls → Rising ls
   rising_one v [] h = tt
   rising_one v (l ∷ ls) (h, hs) = (All-weaker (λ (m : Letter). m.from ≡ v) (λ (m : Letter). l.from ≤ m.from) (λ m e. omega (arith, e, h)) ls hs, rising_one v ls hs)
 
-  rising_append : (c : ℕ) (ls ms : List Letter) → All (λ (l : Letter). l.from < c) ls → All (λ (l : Letter). l.from ≡ c) ms → Rising ls → Rising ms → Rising (ls ++ ms)
+  rising_append : (c : ℕ) (ls ms : List Letter) → AllByRecursion (λ (l : Letter). l.from < c) ls → AllByRecursion (λ (l : Letter). l.from ≡ c) ms → Rising ls → Rising ms → Rising (ls ++ ms)
   rising_append c [] ms hl hm rl rm = rm
   rising_append c (l ∷ ls) ms (h, hl) hm (first, rl) rm = (
     All-append (λ (m : Letter). l.from ≤ m.from) ls ms first (All-weaker (λ (m : Letter). m.from ≡ c) (λ (m : Letter). l.from ≤ m.from) (λ m e. omega (arith, e, h)) ms hm),
@@ -99,7 +99,7 @@ module _ (n : ℕ) (q : Program) (r : ℕ) (w : World) where
   rising_kept p [] h = tt
   rising_kept p (l ∷ ls) (first, rest) = go (p l) (all_kept_by p (λ (m : Letter). l.from ≤ m.from) ls first) (rising_kept p ls rest)
     where
-      go : (b : Bool) → All (λ (m : Letter). l.from ≤ m.from) (filter p ls) → Rising (filter p ls) → Rising (cond b (l ∷ filter p ls) (filter p ls))
+      go : (b : Bool) → AllByRecursion (λ (m : Letter). l.from ≤ m.from) (filter p ls) → Rising (filter p ls) → Rising (cond b (l ∷ filter p ls) (filter p ls))
       go true f k = (f, k)
       go false f k = k
 

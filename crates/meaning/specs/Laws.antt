@@ -1,7 +1,7 @@
 -- Laws of the meaning: what must hold of it whichever way it is written down.
 -- Assumes nothing.
 use Rattle.std.specs.Prelude.{◌≡◌, ℕ, suc, ◌+◌, ◌<◌, ◌≤◌, true, false, List, [], ◌∷◌, filter, nat_eq}
-use Rattle.std.specs.List.{AllByRecursion as All}
+use Rattle.std.specs.List.{AllByRecursion}
 use Rattle.meaning.specs.Meaning.{Letter, Program, World, letters_for, turn_at, rounds, is_over, seen}
 
 -- Two worlds that agree on n places and on the letters under way.
@@ -13,7 +13,7 @@ pub record Agree (n : ℕ) (a b : World) : Type 0 where
 -- Senders never fall.
 abbrev pub Rising : List Letter → Type 0
 Rising [] = Unit {0}
-Rising (l ∷ ls) = All (λ (m : Letter). l.from ≤ m.from) ls × Rising ls
+Rising (l ∷ ls) = AllByRecursion (λ (m : Letter). l.from ≤ m.from) ls × Rising ls
 
 abbrev pub sent_by : ℕ → List Letter → List Letter
 sent_by u = filter (λ (l : Letter). nat_eq u l.from)
@@ -28,7 +28,7 @@ ByRisingSenders =
 
 -- 2. No letter to a place that isn't there ever counts.
 abbrev pub OnlyToThere : Type 0
-OnlyToThere = (n : ℕ) (q : Program) (r : ℕ) → All (λ (l : Letter). l.to < n) (rounds n q r).post
+OnlyToThere = (n : ℕ) (q : Program) (r : ℕ) → AllByRecursion (λ (l : Letter). l.to < n) (rounds n q r).post
 
 -- 3. What a place comes to depends on its own state, its rest and its letters alone.
 abbrev pub OnItsOwn : Type 0

@@ -1,7 +1,7 @@
 -- What places are after so many rounds, as if one machine did it all. Nothing of workers.
 -- Assumes nothing.
 use Rattle.std.specs.Prelude.{ℕ, zero, suc, ◌≤◌, Bool, true, false, cond, ◌&&◌, List, [], ◌∷◌, ◌++◌, map, length, filter, nat_eq, nat_lt}
-use Rattle.std.specs.List.{range_with_len, AllByRecursion as All}
+use Rattle.std.specs.List.{range_with_len, AllByRecursion}
 use Rattle.meaning.specs.Caps.{state_cap, send_cap, letter_cap}
 
 -- A letter from a place to a place (the field's message).
@@ -36,7 +36,7 @@ pub record Program : Type 0 where
 pub record Fits (o : Output) : Type 0 where
   pub state : length o.state ≤ state_cap
   pub count : length o.sends ≤ send_cap
-  pub each : All (λ (s : Sent). length s.bytes ≤ letter_cap) o.sends
+  pub each : AllByRecursion (λ (s : Sent). length s.bytes ≤ letter_cap) o.sends
 
 -- All places, by number, and the letters that were sent in the last round, by rising senders.
 pub record World : Type 0 where

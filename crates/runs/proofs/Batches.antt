@@ -1,7 +1,7 @@
 -- The batches of the meaning are in order, so that no worker refuses one; and where the meaning is over, each worker's part is.
 -- Assumes nothing.
 use Rattle.std.proofs.Common.{◌≡◌, ℕ, zero, suc, ◌+◌, ◌<◌, ◌≤◌, Bool, true, ◌&&◌, eqb, ltb, leb, List, [], ◌∷◌, map, sym, refl, ap, ◌∙◌, arith}
-use Rattle.std.specs.List.{range_with_len, AllByRecursion as All}
+use Rattle.std.specs.List.{range_with_len, AllByRecursion}
 use Rattle.std.proofs.ByRecursion.{All-weaker, all_kept_by, kept_by_passes}
 use Rattle.std.proofs.lemmas.Bool.{and_parts, and_from, lt-ltb, le-leb, false≢true}
 use Rattle.meaning.specs.Meaning.{Letter, none, all_rest, is_over}
@@ -13,11 +13,11 @@ use Rattle.runs.specs.Promise.{silent_meant}
 use Rattle.runs.proofs.Lists.{all_both, all_below_lem}
 use Rattle.runs.proofs.Own.{post_rises, post_from_there, rest_below}
 
-all_letters_lem : (f : Letter → Bool) (ls : List Letter) → All (λ l. f l ≡ true) ls → all_letters f ls ≡ true
+all_letters_lem : (f : Letter → Bool) (ls : List Letter) → AllByRecursion (λ l. f l ≡ true) ls → all_letters f ls ≡ true
 all_letters_lem f [] h = refl
 all_letters_lem f (l ∷ ls) h = and_from (f l) (all_letters f ls) h.0 (all_letters_lem f ls h.1)
 
-rising_from_lem : (u : ℕ) (ls : List Letter) → All (λ (l : Letter). u ≤ l.from) ls → Rising ls → rising_from u ls ≡ true
+rising_from_lem : (u : ℕ) (ls : List Letter) → AllByRecursion (λ (l : Letter). u ≤ l.from) ls → Rising ls → rising_from u ls ≡ true
 rising_from_lem u [] h k = refl
 rising_from_lem u (l ∷ ls) h k = and_from (leb u l.from) (rising_from l.from ls) (le-leb u l.from h.0) (rising_from_lem l.from ls k.0 k.1)
 
@@ -26,7 +26,7 @@ module _ (b : Job) (j i r : ℕ) where
   batch = letters_to b i (letters_by b j (meant b r).post)
 
   -- what holds of all letters holds of a batch's
-  of_batch : (P : Letter → Type 0) → All P (meant b r).post → All P batch
+  of_batch : (P : Letter → Type 0) → AllByRecursion P (meant b r).post → AllByRecursion P batch
   of_batch P h = all_kept_by (λ (l : Letter). eqb i (b.owner l.to)) P (letters_by b j (meant b r).post) (all_kept_by (λ (l : Letter). eqb j (b.owner l.from)) P (meant b r).post h)
 
   batch_rises : Rising batch
@@ -56,11 +56,11 @@ module _ (b : Job) (j i r : ℕ) where
 
 -- OVER
 
-counting_below : (a n c : ℕ) → a + n ≤ c → All (λ (v : ℕ). v < c) (range_with_len a n)
+counting_below : (a n c : ℕ) → a + n ≤ c → AllByRecursion (λ (v : ℕ). v < c) (range_with_len a n)
 counting_below a zero c h = tt
 counting_below a (suc n) c h = (omega arith, counting_below (a + 1) n c (omega arith))
 
-all_rest_true : (n : ℕ) (f : ℕ → Bool) → all_below n f ≡ true → (vs : List ℕ) → All (λ (v : ℕ). v < n) vs → all_true (map f vs) ≡ true
+all_rest_true : (n : ℕ) (f : ℕ → Bool) → all_below n f ≡ true → (vs : List ℕ) → AllByRecursion (λ (v : ℕ). v < n) vs → all_true (map f vs) ≡ true
 all_rest_true n f e [] h = refl
 all_rest_true n f e (v ∷ vs) h = and_from (f v) (all_true (map f vs)) (all_below_lem n f e v h.0) (all_rest_true n f e vs h.1)
 

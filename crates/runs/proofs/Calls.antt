@@ -1,7 +1,7 @@
 -- Each call of a machine, from what is true and on a message that is true, leaves what is true and says what is true.
 -- Assumes nothing.
 use Rattle.std.proofs.Common.{◌≡◌, ℕ, suc, ◌+◌, ◌<◌, Bool, true, false, cond, not, ◌&&◌, ◌||◌, eqb, ltb, leb, List, [], ◌∷◌, ◌++◌, map, is_some, Some, None, Option, sym, refl, ap, ◌∙◌, ⊎_elim, add-one}
-use Rattle.std.specs.List.{range_with_len, AllByRecursion as All}
+use Rattle.std.specs.List.{range_with_len, AllByRecursion}
 use Rattle.std.proofs.ByRecursion.{All-append}
 use Rattle.std.proofs.lemmas.Bool.{eqb-true, and_parts, or_cases, not-false, cond_both, false≢true}
 use Rattle.meaning.specs.Caps.{round_cap}
@@ -40,8 +40,8 @@ module _ (b : Job) (proper : Proper b) (i : ℕ) where
   -- a call of a worker that leaves and says what is true
   pub record TrueReply (y : W.Reply) : Type 0 where
     pub state : TrueWorker b i y.state
-    pub appends : All (TrueRecord b i) y.appends
-    pub says : All (TrueParcel b) y.says
+    pub appends : AllByRecursion (TrueRecord b i) y.appends
+    pub says : AllByRecursion (TrueParcel b) y.says
 
   unmoved_true : (x : W.Worker) (o : Outcome) → TrueWorker b i x → TrueReply (W.unmoved x o)
   unmoved_true x o t = record { state = t; appends = tt; says = tt }
@@ -60,15 +60,15 @@ module _ (b : Job) (proper : Proper b) (i : ℕ) where
       record { state = record { share = first_true; worked = λ v q. nobody q; got = λ j ls q. nobody q; over = λ q. absurd (false≢true q) }; appends = tt; says = (tt, tt) }
 
   -- what it says of its checkpoints and of itself asks for nothing
-  put_by_true : (k : ℕ) (o : Option ℕ) → All (TrueParcel b) (W.says_put_by i k o)
+  put_by_true : (k : ℕ) (o : Option ℕ) → AllByRecursion (TrueParcel b) (W.says_put_by i k o)
   put_by_true k None = tt
   put_by_true k (Some r) = (tt, tt)
 
-  answer_true : (js : List Record) (m : Message) (o : Outcome) → All (TrueParcel b) (W.answer i js m o)
+  answer_true : (js : List Record) (m : Message) (o : Outcome) → AllByRecursion (TrueParcel b) (W.answer i js m o)
   answer_true js (Batch k r f to ls) o = tt
   answer_true js (Ready k r e) o = tt
   answer_true js (Go k r nr e) o = tt
-  answer_true js (Anew k r) o = cond_both (eqb (outcome_number o) 6) (W.to_foreman i (PutBy k (greatest_below 0 r js)) ∷ []) [] (All (TrueParcel b)) (λ e. (tt, tt)) (λ e. tt)
+  answer_true js (Anew k r) o = cond_both (eqb (outcome_number o) 6) (W.to_foreman i (PutBy k (greatest_below 0 r js)) ∷ []) [] (AllByRecursion (TrueParcel b)) (λ e. (tt, tt)) (λ e. tt)
   answer_true js (PutBy k r) o = tt
   answer_true js (Hello k) o = tt
 
@@ -77,9 +77,9 @@ module _ (b : Job) (proper : Proper b) (i : ℕ) where
     worked_true : is_some x.worked ≡ true → W.view_in x.worked ≡ work_meant b i x.round
     worked_true s = t.worked (W.view_in x.worked) (some_view x.worked s)
 
-    batches_true : All (TrueParcel b) (W.says_batches b i x)
+    batches_true : AllByRecursion (TrueParcel b) (W.says_batches b i x)
     batches_true =
-        cond_both (is_some x.worked) (map (W.batch_to b i x) (range_with_len 0 b.workers)) [] (All (TrueParcel b))
+        cond_both (is_some x.worked) (map (W.batch_to b i x) (range_with_len 0 b.workers)) [] (AllByRecursion (TrueParcel b))
         (λ s. all_made (TrueParcel b) (W.batch_to b i x) (λ j. (refl, ap (λ (v : View). letters_to b j v.post) (worked_true s))) (range_with_len 0 b.workers))
         (λ s. tt)
 
@@ -98,8 +98,8 @@ module _ (b : Job) (proper : Proper b) (i : ℕ) where
           (λ k. record { states = (worked_true has_worked k).states; rests = (worked_true has_worked k).rests; post = merged_true b i x.round x.got proper got_true k })
           ∙ ap (λ r. share_of b i (meant b r)) (sym (add-one x.round))
 
-    ready_true : All (TrueParcel b) (W.says_ready b i x)
-    ready_true = cond_both (W.is_ready b x) (W.to_foreman i (Ready x.attempt x.round (W.is_silent b x)) ∷ []) [] (All (TrueParcel b)) (λ e. (silent_true e, tt)) (λ e. tt)
+    ready_true : AllByRecursion (TrueParcel b) (W.says_ready b i x)
+    ready_true = cond_both (W.is_ready b x) (W.to_foreman i (Ready x.attempt x.round (W.is_silent b x)) ∷ []) [] (AllByRecursion (TrueParcel b)) (λ e. (silent_true e, tt)) (λ e. tt)
 
     pub ticked_true : TrueReply (W.ticked b i x)
     ticked_true =
@@ -107,8 +107,8 @@ module _ (b : Job) (proper : Proper b) (i : ℕ) where
           state = t;
           appends = tt;
           says =
-              cond_both x.joined (cond x.over [] (W.says_batches b i x ++ W.says_ready b i x ++ W.says_put_by i x.attempt x.latest)) (W.to_foreman i (Hello x.attempt) ∷ []) (All (TrueParcel b))
-              (λ e. cond_both x.over [] (W.says_batches b i x ++ W.says_ready b i x ++ W.says_put_by i x.attempt x.latest) (All (TrueParcel b))
+              cond_both x.joined (cond x.over [] (W.says_batches b i x ++ W.says_ready b i x ++ W.says_put_by i x.attempt x.latest)) (W.to_foreman i (Hello x.attempt) ∷ []) (AllByRecursion (TrueParcel b))
+              (λ e. cond_both x.over [] (W.says_batches b i x ++ W.says_ready b i x ++ W.says_put_by i x.attempt x.latest) (AllByRecursion (TrueParcel b))
               (λ f. tt)
               (λ f. All-append (TrueParcel b) (W.says_batches b i x ++ W.says_ready b i x) (W.says_put_by i x.attempt x.latest) (All-append (TrueParcel b) (W.says_batches b i x) (W.says_ready b i x) batches_true ready_true) (put_by_true x.attempt x.latest)))
               (λ e. (tt, tt));
@@ -135,7 +135,7 @@ module _ (b : Job) (proper : Proper b) (i : ℕ) where
       (λ e. unmoved_true x Taken t)
 
   -- a checkpoint out of a journal that is true is true
-  checkpoint_true : (r : ℕ) (o : Option View) → ((s : View) → o ≡ Some s → s ≡ share_of b i (meant b r)) → (js : List Record) → All (TrueRecord b i) js → (s : View) → checkpoint_from o r js ≡ Some s → s ≡ share_of b i (meant b r)
+  checkpoint_true : (r : ℕ) (o : Option View) → ((s : View) → o ≡ Some s → s ≡ share_of b i (meant b r)) → (js : List Record) → AllByRecursion (TrueRecord b i) js → (s : View) → checkpoint_from o r js ≡ Some s → s ≡ share_of b i (meant b r)
   checkpoint_true r o h [] all = h
   checkpoint_true r o h (Checkpoint c v ∷ js) (one, all) =
       checkpoint_true r (cond (eqb r c) (Some v) o)
@@ -145,7 +145,7 @@ module _ (b : Job) (proper : Proper b) (i : ℕ) where
       js all
   checkpoint_true r o h (Joined k ∷ js) (one, all) = checkpoint_true r o h js all
 
-  module _ (js : List Record) (all : All (TrueRecord b i) js) where
+  module _ (js : List Record) (all : AllByRecursion (TrueRecord b i) js) where
     share_true : (r : ℕ) → (eqb r 0 || is_some (checkpoint_of r js)) ≡ true → W.share_at b i r js ≡ share_of b i (meant b r)
     share_true r = go (eqb r 0) refl
       where
@@ -183,8 +183,8 @@ module _ (b : Job) (proper : Proper b) (i : ℕ) where
           let round : r ≡ x.round + 1 = eqb-true r (x.round + 1) (and_parts (x.joined && eqb k x.attempt) (eqb r (x.round + 1)) (not-false (x.joined && eqb k x.attempt && eqb r (x.round + 1)) c.stale)).1 in
           record {
             state = record { share = next; worked = λ v q. nobody q; got = λ u ls q. nobody q; over = λ q. ap (λ u. is_over b.places (meant b u)) (sym round) ∙ m q };
-            appends = cond_both (W.is_due (x.round + 1)) (Checkpoint (x.round + 1) (W.next_share b x) ∷ []) [] (All (TrueRecord b i)) (λ d. (next, tt)) (λ d. tt);
-            says = cond_both (W.is_due (x.round + 1)) (W.to_foreman i (PutBy x.attempt (x.round + 1)) ∷ []) [] (All (TrueParcel b)) (λ d. (tt, tt)) (λ d. tt);
+            appends = cond_both (W.is_due (x.round + 1)) (Checkpoint (x.round + 1) (W.next_share b x) ∷ []) [] (AllByRecursion (TrueRecord b i)) (λ d. (next, tt)) (λ d. tt);
+            says = cond_both (W.is_due (x.round + 1)) (W.to_foreman i (PutBy x.attempt (x.round + 1)) ∷ []) [] (AllByRecursion (TrueParcel b)) (λ d. (tt, tt)) (λ d. tt);
           }
       taking_true (Anew k r) c m =
           record { state = joined_true k r (W.share_at b i r js) (share_true r (not-false (eqb r 0 || is_some (checkpoint_of r js)) c.missing)); appends = (tt, tt); says = tt }
@@ -213,12 +213,12 @@ ForemanUp b (Some f) = TrueForeman b f
 module _ (b : Job) (proper : Proper b) where
   pub record TrueOrder (y : F.Reply) : Type 0 where
     pub state : ForemanUp b y.state
-    pub says : All (TrueParcel b) y.says
+    pub says : AllByRecursion (TrueParcel b) y.says
 
   begun_true : (k r : ℕ) → TrueForeman b (F.begun k r)
   begun_true k r = record { ending = λ e j h. absurd (false≢true h); over = λ e. absurd (false≢true e) }
 
-  to_all_true : (m : Message) → TrueMessage b foreman_line m → All (TrueParcel b) (to_all b.workers m)
+  to_all_true : (m : Message) → TrueMessage b foreman_line m → AllByRecursion (TrueParcel b) (to_all b.workers m)
   to_all_true m h = all_made (TrueParcel b) (λ j. record { from = foreman_line; to = j; message = m }) (λ j. h) (range_with_len 0 b.workers)
 
   begins_true : (f : F.Foreman) (r : ℕ) (xs : List Note) → TrueOrder (F.begins b.workers f r xs)

@@ -2,7 +2,7 @@
 -- Assumes nothing.
 use Rattle.std.proofs.Common.{◌≡◌, ℕ, zero, suc, ◌+◌, ◌<◌, ◌≤◌, min, Bool, true, false, cond, ◌&&◌, ◌||◌, eqb, leb, List, [], ◌∷◌, ◌++◌, map, Some, None, filter, Option, sym, refl, ap, ◌∙◌, subst, ⊎_elim, add-zero, arith}
 use mathlib.Core.List.{Memᴰ}
-use Rattle.std.specs.List.{range_with_len, AllByRecursion as All}
+use Rattle.std.specs.List.{range_with_len, AllByRecursion}
 use Rattle.std.proofs.ByRecursion.{All-weaker, All-map, all_kept_by, kept_by_passes}
 use Rattle.std.proofs.lemmas.Bool.{le-leb, lt-leb, eq-eqb, ne_eqb, eqb-true, and_parts, and_from, and_left, and_right, cond_both, cases_eq, cases_lt}
 use Rattle.meaning.specs.Meaning.{Letter, none}
@@ -14,20 +14,20 @@ use Rattle.runs.specs.World.{put}
 
 -- WHAT HOLDS OF ALL
 
-pub all_mem : {X : Type 0} (P : X → Type 0) {x : X} {xs : List X} → Memᴰ x xs → All P xs → P x
+pub all_mem : {X : Type 0} (P : X → Type 0) {x : X} {xs : List X} → Memᴰ x xs → AllByRecursion P xs → P x
 all_mem P (Memᴰ.head e) h = subst P (sym e) h.0
 all_mem P (Memᴰ.tail m) h = all_mem P m h.1
 
-pub all_always : {X : Type 0} (P : X → Type 0) → ((x : X) → P x) → (xs : List X) → All P xs
+pub all_always : {X : Type 0} (P : X → Type 0) → ((x : X) → P x) → (xs : List X) → AllByRecursion P xs
 all_always P f [] = tt
 all_always P f (x ∷ xs) = (f x, all_always P f xs)
 
-pub all_both : {X : Type 0} (P Q : X → Type 0) (xs : List X) → All P xs → All Q xs → All (λ x. P x × Q x) xs
+pub all_both : {X : Type 0} (P Q : X → Type 0) (xs : List X) → AllByRecursion P xs → AllByRecursion Q xs → AllByRecursion (λ x. P x × Q x) xs
 all_both P Q [] h k = tt
 all_both P Q (x ∷ xs) (h, hs) (k, ks) = ((h, k), all_both P Q xs hs ks)
 
 -- what holds of whatever is made holds of all that is made
-pub all_made : {X Y : Type 0} (P : X → Type 0) (f : Y → X) → ((y : Y) → P (f y)) → (ys : List Y) → All P (map f ys)
+pub all_made : {X Y : Type 0} (P : X → Type 0) (f : Y → X) → ((y : Y) → P (f y)) → (ys : List Y) → AllByRecursion P (map f ys)
 all_made P f h ys = All-map P f ys (all_always (λ y. P (f y)) h ys)
 
 -- what is made of each number below n is there
@@ -108,7 +108,7 @@ least_le g (suc c) f j lt = below_next (λ i. least_of g (suc c) f ≤ f i) c (�
 
 -- WHAT IS KEPT
 
-pub kept_same : {X : Type 0} (p q : X → Bool) (xs : List X) → All (λ x. p x ≡ q x) xs → filter p xs ≡ filter q xs
+pub kept_same : {X : Type 0} (p q : X → Bool) (xs : List X) → AllByRecursion (λ x. p x ≡ q x) xs → filter p xs ≡ filter q xs
 kept_same p q [] h = refl
 kept_same p q (x ∷ xs) (h, hs) = λ i. cond (h i) (x ∷ kept_same p q xs hs i) (kept_same p q xs hs i)
 
@@ -135,11 +135,11 @@ counting_more a (suc n) = ap (λ l. a ∷ l) (counting_more (a + 1) n ∙ ap (λ
 
 -- PUTTING LETTERS TOGETHER
 
-placed_front : (x : Letter) (rest : List Letter → List Letter) (ys : List Letter) → All (λ (y : Letter). x.from ≤ y.from) ys → placed x rest ys ≡ x ∷ rest ys
+placed_front : (x : Letter) (rest : List Letter → List Letter) (ys : List Letter) → AllByRecursion (λ (y : Letter). x.from ≤ y.from) ys → placed x rest ys ≡ x ∷ rest ys
 placed_front x rest [] h = refl
 placed_front x rest (y ∷ ys) (h, hs) = ap (λ b. cond b (x ∷ rest (y ∷ ys)) (y ∷ placed x rest ys)) (le-leb x.from y.from h)
 
-merge_past : (x : Letter) (zs ys : List Letter) → All (λ (z : Letter). x.from < z.from) zs → merge zs (x ∷ ys) ≡ x ∷ merge zs ys
+merge_past : (x : Letter) (zs ys : List Letter) → AllByRecursion (λ (z : Letter). x.from < z.from) zs → merge zs (x ∷ ys) ≡ x ∷ merge zs ys
 merge_past x [] ys h = refl
 merge_past x (z ∷ zs) ys (h, hs) = ap (λ b. cond b (z ∷ merge zs (x ∷ ys)) (x ∷ placed z (merge zs) ys)) (lt-leb z.from x.from h)
 
@@ -148,10 +148,10 @@ pub merge_kept : (p q : Letter → Bool) → ((x y : Letter) → p x ≡ true �
 merge_kept p q apart [] s = refl
 merge_kept p q apart (x ∷ xs) (first, rest) = go (p x) (q x) refl refl (merge_kept p q apart xs rest)
   where
-    later : (t : Letter → Bool) → All (λ (y : Letter). x.from ≤ y.from) (filter t xs)
+    later : (t : Letter → Bool) → AllByRecursion (λ (y : Letter). x.from ≤ y.from) (filter t xs)
     later t = all_kept_by t (λ (y : Letter). x.from ≤ y.from) xs first
 
-    after : q x ≡ true → All (λ (y : Letter). x.from < y.from) (filter p xs)
+    after : q x ≡ true → AllByRecursion (λ (y : Letter). x.from < y.from) (filter p xs)
     after e =
         All-weaker (λ (y : Letter). (x.from ≤ y.from) × (p y ≡ true)) (λ (y : Letter). x.from < y.from)
         (λ y h. let ne : y.from ≡ x.from → ⊥ = apart y x h.1 e in let le : x.from ≤ y.from = h.0 in omega arith)

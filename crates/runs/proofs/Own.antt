@@ -1,7 +1,7 @@
 -- What a worker's places come to depends on what it has of them; and batches from all, put together, are just its letters.
 -- Assumes nothing.
 use Rattle.std.proofs.Common.{◌≡◌, ℕ, zero, suc, ◌+◌, ◌<◌, ◌≤◌, Bool, true, false, cond, ◌&&◌, ◌||◌, eqb, ltb, ◌⊎◌, List, [], ◌∷◌, ◌++◌, map, filter, Option, sym, refl, ap, ◌∙◌, ⊎_elim, append_assoc, append-nil, zero-add, arith}
-use Rattle.std.specs.List.{range_with_len, AllByRecursion as All}
+use Rattle.std.specs.List.{range_with_len, AllByRecursion}
 use Rattle.std.proofs.lemmas.List.Elements.{filter-append}
 use Rattle.std.proofs.ByRecursion.{All-weaker, kept_by_passes}
 use Rattle.std.proofs.lemmas.List.{map-append}
@@ -23,7 +23,7 @@ unfolding rounds
 post_rises b zero = tt
 post_rises b (suc r) = rising_below b.places b.program r (meant b r) b.places
 
-pub post_from_there : (b : Job) (r : ℕ) → All (λ (l : Letter). l.from < b.places) (meant b r).post
+pub post_from_there : (b : Job) (r : ℕ) → AllByRecursion (λ (l : Letter). l.from < b.places) (meant b r).post
 unfolding rounds
 post_from_there b zero = tt
 post_from_there b (suc r) = below_sends b.places b.program r (meant b r) b.places
@@ -47,7 +47,7 @@ module _ (b : Job) (i r : ℕ) (w : World) where
   abbrev mine : ℕ → Bool
   mine v = eqb i (b.owner v)
 
-  own_turns : (ps : List ℕ) → All (λ v. mine v ≡ true) ps → turns_of b r (letters_to b i w.post) ps (map w.state ps) (map w.rests ps) ≡ map turn_of ps
+  own_turns : (ps : List ℕ) → AllByRecursion (λ v. mine v ≡ true) ps → turns_of b r (letters_to b i w.post) ps (map w.state ps) (map w.rests ps) ≡ map turn_of ps
   own_turns [] h = refl
   own_turns (v ∷ ps) (h, hs) =
       λ k. turn b.places b.program (record { round = r; place = v; state = w.state v; letters = own_letters b i v h w.post k }) (w.rests v) ∷ own_turns ps hs k
@@ -59,7 +59,7 @@ module _ (b : Job) (i r : ℕ) (w : World) where
       sent : List Letter
       sent = (turn_of c).sent
 
-      as_owner : (t : Bool) → mine c ≡ t → All (λ (l : Letter). mine l.from ≡ t) sent
+      as_owner : (t : Bool) → mine c ≡ t → AllByRecursion (λ (l : Letter). mine l.from ≡ t) sent
       as_owner t e = All-weaker (λ (l : Letter). l.from ≡ c) (λ (l : Letter). mine l.from ≡ t) (λ l f. ap mine f ∙ e) sent (from_there b.places b.program r w c)
 
       go : (t : Bool) → mine c ≡ t → sent_in (map turn_of (cond t (c ∷ []) [])) ≡ letters_by b i sent
@@ -188,7 +188,7 @@ pub rest_below : (n : ℕ) (f : ℕ → Bool) → all_rest n f ≡ all_below n f
 rest_below zero f = refl
 rest_below (suc n) f = ap (λ (t : Bool). f n && t) (rest_below n f)
 
-none_of : (b : Job) → Proper b → (ls : List Letter) → All (λ (l : Letter). l.to < b.places) ls → ((i : ℕ) → i < b.workers → none (letters_to b i ls) ≡ true) → none ls ≡ true
+none_of : (b : Job) → Proper b → (ls : List Letter) → AllByRecursion (λ (l : Letter). l.to < b.places) ls → ((i : ℕ) → i < b.workers → none (letters_to b i ls) ≡ true) → none ls ≡ true
 none_of b proper [] h k = refl
 none_of b proper (x ∷ xs) (h, hs) k =
     ap (λ t. none (cond t (x ∷ letters_to b (b.owner x.to) xs) (letters_to b (b.owner x.to) xs))) (sym (eq-eqb (b.owner x.to) (b.owner x.to) refl))

@@ -1,7 +1,7 @@
 -- The pace of a run: ghosts say between which rounds an attempt is and whether it is over, and its workers keep to them.
 -- Assumes nothing.
 use Rattle.std.proofs.Common.{◌≡◌, ℕ, zero, suc, ◌+◌, ◌<◌, ◌≤◌, Bool, true, false, cond, ◌||◌, eqb, ◌⊎◌, List, [], ◌∷◌, ◌++◌, length, take, Some, None, Option, sym, refl, ap, ◌∙◌, subst, inl, inr, append-nil, arith}
-use Rattle.std.specs.List.{AllByRecursion as All}
+use Rattle.std.specs.List.{AllByRecursion}
 use Rattle.std.proofs.ByRecursion.{All-append, All-weaker, All-take}
 use Rattle.std.proofs.lemmas.Bool.{or_cases, or_left, or_right}
 use Rattle.meaning.specs.Caps.{round_cap}
@@ -113,7 +113,7 @@ pub record Paced (b : Job) (g : Ghost) (w : World) : Type 0 where
   pub due : is_due g.noted ≡ true
   pub low : g.noted < round_cap
   pub workers : (i : ℕ) → i < b.workers → Own b g (w.worker i)
-  pub said : All (Sound b g w.worker) w.said
+  pub said : AllByRecursion (Sound b g w.worker) w.said
   pub leads : (f : Foreman) → w.foreman.up ≡ Some f → Leads g f
   pub hears : (f : Foreman) → w.foreman.up ≡ Some f → (j : ℕ) → j < b.workers → Hears b g f j (w.worker j)
 
@@ -138,7 +138,7 @@ module _ (b : Job) (g h : Ghost) (l : Later g h) where
   told_later x (PutBy k r) c = let z : h.from k ≡ g.from k = l.from k c.0 in (omega (arith, c.0, l.attempt), omega (arith, c.1), λ t d p q. c.2 t d (omega arith) q)
   told_later x (Hello k) c = tt
 
-  pub said_later : (ws : ℕ → Machine Worker Record) (s : List Parcel) → All (Sound b g ws) s → All (Sound b h ws) s
+  pub said_later : (ws : ℕ → Machine Worker Record) (s : List Parcel) → AllByRecursion (Sound b g ws) s → AllByRecursion (Sound b h ws) s
   said_later ws = All-weaker (Sound b g ws) (Sound b h ws) (λ p. told_later (ws p.from) p.message)
 
   -- who is in an attempt, once it is done with all rounds up to the one that the attempt has come to now
@@ -217,11 +217,11 @@ module _ (b : Job) where
   pub record Moves (g : Ghost) (i : ℕ) (x : Machine Worker Record) (e : Effect Worker Record) : Type 0 where
     pub grows : Grows b x (after x e)
     pub own : Own b g (after x e)
-    pub says : All (SaidBy b g i (after x e)) e.says
+    pub says : AllByRecursion (SaidBy b g i (after x e)) e.says
     pub few : length e.appends ≤ 1
 
   moved : (g : Ghost) (w : World) → Paced b g w → (i : ℕ) (y : Machine Worker Record) (s : List Parcel) → Grows b (w.worker i) y → Own b g y →
-      All (SaidBy b g i y) s → Paced b g (record { worker = put i y w.worker; foreman = w.foreman; said = s ++ w.said })
+      AllByRecursion (SaidBy b g i y) s → Paced b g (record { worker = put i y w.worker; foreman = w.foreman; said = s ++ w.said })
   moved g w h i y s grows own says =
       record {
         began = h.began;
@@ -295,7 +295,7 @@ module _ (b : Job) where
         hears = λ f u. nobody u;
       }
     where
-      some : (s : List Parcel) → All (Sound b g w.worker) (s ++ t) → (d : ℕ) → All (Sound b g w.worker) (take d s ++ t)
+      some : (s : List Parcel) → AllByRecursion (Sound b g w.worker) (s ++ t) → (d : ℕ) → AllByRecursion (Sound b g w.worker) (take d s ++ t)
       some [] c zero = c
       some [] c (suc d) = c
       some (p ∷ s) c zero = some s c.1 zero

@@ -1,7 +1,7 @@
 -- The pace of the foreman: each call keeps it. An attempt begins where all can begin, and goes on when all are ready.
 -- Assumes nothing.
 use Rattle.std.proofs.Common.{◌≡◌, ℕ, ◌+◌, ◌%◌, ◌<◌, ◌≤◌, Bool, true, false, cond, not, ◌&&◌, ◌||◌, eqb, ltb, leb, ◌⊎◌, List, [], ◌∷◌, ◌++◌, length, Some, None, Option, sym, refl, ap, ◌∙◌, subst, inl, inr, append-nil, arith}
-use Rattle.std.specs.List.{range_with_len, AllByRecursion as All}
+use Rattle.std.specs.List.{range_with_len, AllByRecursion}
 use Rattle.std.proofs.ByRecursion.{All-append}
 use Rattle.std.proofs.lemmas.Bool.{eqb-true, ltb-true, leb-true, leb-false, not-false, and_parts, or_cases, or_right, false≢true}
 use Rattle.meaning.specs.Caps.{round_cap}
@@ -28,7 +28,7 @@ module _ (b : Job) (ws : ℕ → Machine Worker Record) (s : List Parcel) where
   Turned js e = Pace b (world e.up (js ++ e.appends) (e.says ++ s)) × (length e.appends ≤ 1)
 
   abbrev Says : Ghost → List Parcel → Type 0
-  Says g t = All (Sound b g ws) t
+  Says g t = AllByRecursion (Sound b g ws) t
 
   abbrev HearsAll : Ghost → Foreman → Type 0
   HearsAll g f = (j : ℕ) → j < b.workers → Hears b g f j (ws j)

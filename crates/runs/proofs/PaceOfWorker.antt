@@ -1,7 +1,7 @@
 -- The pace of a worker: each call keeps it, and no message that was said finds it unready or without its checkpoint.
 -- Assumes nothing.
 use Rattle.std.proofs.Common.{◌≡◌, ℕ, suc, ◌+◌, ◌<◌, ◌≤◌, Bool, true, false, cond, not, ◌&&◌, eqb, ltb, ◌⊎◌, List, [], ◌∷◌, ◌++◌, map, length, is_some, Some, None, Option, sym, refl, ap, ◌∙◌, subst, inl, inr, append-nil, arith}
-use Rattle.std.specs.List.{range_with_len, AllByRecursion as All}
+use Rattle.std.specs.List.{range_with_len, AllByRecursion}
 use Rattle.std.proofs.ByRecursion.{All-append}
 use Rattle.std.proofs.lemmas.Bool.{eqb-true, ne_eqb, leb-false, not-false, not_from_true, and_parts, and_from, cases_eq, false≢true, both_ways}
 use Rattle.meaning.specs.Caps.{round_cap}
@@ -80,7 +80,7 @@ module _ (b : Job) (g : Ghost) where
   module _ (i : ℕ) where
     -- what worker i says, as machine x
     abbrev Says : Machine Worker Record → List Parcel → Type 0
-    Says x s = All (SaidBy b g i x) s
+    Says x s = AllByRecursion (SaidBy b g i x) s
 
     -- a move, with the journal then written as one likes
     moves_to : (x : Machine Worker Record) (o : Option Worker) (news : List Record) (s : List Parcel) (ks : List Record) → x.journal ++ news ≡ ks → length news ≤ 1 →

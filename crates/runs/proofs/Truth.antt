@@ -1,7 +1,7 @@
 -- What holds of every world that a run leads to: all that machines have, keep and say is true. So it is as if one did it, and over is over.
 -- Assumes nothing.
 use Rattle.std.proofs.Common.{◌≡◌, ℕ, leb, List, [], length, take, Some, None, Option, refl}
-use Rattle.std.specs.List.{AllByRecursion as All}
+use Rattle.std.specs.List.{AllByRecursion}
 use Rattle.std.proofs.ByRecursion.{All-append, All-take}
 use Rattle.std.proofs.lemmas.Bool.{cond_both}
 use Rattle.meaning.proofs.Ending.{over_stays}
@@ -25,24 +25,24 @@ worker_up b i (Some y) h x e = only (TrueWorker b i) y h x e
 
 pub record TrueMachine (b : Job) (i : ℕ) (m : Machine W.Worker Record) : Type 0 where
   pub up : WorkerUp b i m.up
-  pub journal : All (TrueRecord b i) m.journal
+  pub journal : AllByRecursion (TrueRecord b i) m.journal
 
 -- THE INVARIANT
 pub record Truth (b : Job) (w : World) : Type 0 where
   pub workers : (i : ℕ) → TrueMachine b i (w.worker i)
   pub foreman : ForemanUp b w.foreman.up
-  pub said : All (TrueParcel b) w.said
+  pub said : AllByRecursion (TrueParcel b) w.said
 
 -- CALLS
 
 pub record TrueEffect (b : Job) (i : ℕ) (e : Effect W.Worker Record) : Type 0 where
   pub up : WorkerUp b i e.up
-  pub appends : All (TrueRecord b i) e.appends
-  pub says : All (TrueParcel b) e.says
+  pub appends : AllByRecursion (TrueRecord b i) e.appends
+  pub says : AllByRecursion (TrueParcel b) e.says
 
 pub record TrueOrders (b : Job) (e : Effect F.Foreman Note) : Type 0 where
   pub up : ForemanUp b e.up
-  pub says : All (TrueParcel b) e.says
+  pub says : AllByRecursion (TrueParcel b) e.says
 
 -- what a call is made on is true
 abbrev pub TrueCall : Job → Call → Type 0
@@ -52,13 +52,13 @@ TrueCall b Tick = Unit {0}
 TrueCall b Work = Unit {0}
 
 module _ (b : Job) (proper : Proper b) where
-  heard_true : (w : World) (i : ℕ) (c : Call) → All (TrueParcel b) w.said → Heard w i c → TrueCall b c
+  heard_true : (w : World) (i : ℕ) (c : Call) → AllByRecursion (TrueParcel b) w.said → Heard w i c → TrueCall b c
   heard_true w i Open h m = tt
   heard_true w i (Take j x) h m = all_mem (TrueParcel b) m h
   heard_true w i Tick h m = tt
   heard_true w i Work h m = tt
 
-  worker_call_true : (i : ℕ) (c : Call) (js : List Record) (o : Option W.Worker) → All (TrueRecord b i) js → WorkerUp b i o → TrueCall b c → TrueEffect b i (worker_call b i c js o)
+  worker_call_true : (i : ℕ) (c : Call) (js : List Record) (o : Option W.Worker) → AllByRecursion (TrueRecord b i) js → WorkerUp b i o → TrueCall b c → TrueEffect b i (worker_call b i c js o)
   worker_call_true i c js o all up h = go c o up h
     where
       reply : (y : W.Reply) → TrueReply b proper i y → TrueEffect b i (record { up = Some y.state; appends = y.appends; says = y.says })
@@ -91,8 +91,8 @@ module _ (b : Job) (proper : Proper b) where
 
   -- STEPS
 
-  said_true : {S R : Type 0} (e : Effect S R) (k d : ℕ) → All (TrueParcel b) e.says → All (TrueParcel b) (said_by e k d)
-  said_true e k d h = cond_both (leb (length e.appends) k) (take d e.says) [] (All (TrueParcel b)) (λ q. All-take (TrueParcel b) d e.says h) (λ q. tt)
+  said_true : {S R : Type 0} (e : Effect S R) (k d : ℕ) → AllByRecursion (TrueParcel b) e.says → AllByRecursion (TrueParcel b) (said_by e k d)
+  said_true e k d h = cond_both (leb (length e.appends) k) (take d e.says) [] (AllByRecursion (TrueParcel b)) (λ q. All-take (TrueParcel b) d e.says h) (λ q. tt)
 
   module _ (w : World) (t : Truth b w) where
     by_worker_lem : (i : ℕ) (c : Call) → Heard w i c → TrueEffect b i (worker_effect b w i c)

@@ -2,7 +2,7 @@
 -- Assumes nothing.
 use Rattle.std.specs.Prelude.{◌≡◌, ℕ, suc, ◌+◌, ◌*◌, ◌<◌, ◌≤◌, Bool, true, false, ◌&&◌, ◌⊎◌, List, [], ◌∷◌, map, Some, None, Option, ◌≢◌}
 use mathlib.Core.List.{Memᴰ}
-use Rattle.std.specs.List.{AllByRecursion as All}
+use Rattle.std.specs.List.{AllByRecursion}
 use Rattle.meaning.specs.Caps.{round_cap}
 use Rattle.meaning.specs.Meaning.{Letter, View, none, is_over}
 use Rattle.crew.specs.Job.{Job, Proper, meant, places_of, letters_to, letters_by, share_of}
@@ -47,8 +47,8 @@ TrueMessage b i (Hello k) = Unit {0}
 -- meaning makes of that round.
 pub record True (b : Job) (w : World) : Type 0 where
   pub workers : (i : ℕ) → i < b.workers → (x : Worker) → (w.worker i).up ≡ Some x → TrueWorker b i x
-  pub journals : (i : ℕ) → i < b.workers → All (TrueRecord b i) (w.worker i).journal
-  pub said : All (λ (p : Parcel). TrueMessage b p.from p.message) w.said
+  pub journals : (i : ℕ) → i < b.workers → AllByRecursion (TrueRecord b i) (w.worker i).journal
+  pub said : AllByRecursion (λ (p : Parcel). TrueMessage b p.from p.message) w.said
 
 abbrev pub AsIfOne : Type 0
 AsIfOne = (b : Job) → Proper b → (w : World) → Reach b w → True b w

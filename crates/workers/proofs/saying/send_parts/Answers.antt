@@ -10,7 +10,7 @@ use Rattle.workers.proofs.saying.send_parts.Goals as goal
 pub loop-letters-init : goal.loop-letters-init
 loop-letters-init c =
     let v = c.args.parts in
-    let e : length (into_iter_items c.into_iter-letters-iterator.result) ≡ length (vec_items v) = ap length c.into_iter-letters-iterator.ensures.into_iter-gives.0 in
+    let e : length (into_iter_items c.into_iter-letters-iterator.result) ≡ length (vec_items v) = ap length c.into_iter-letters-iterator.ensures.into_iter_gives.0 in
     let few : length (vec_items v) ≤ 64 = omega (arith, v.ok.0, c.requires) in
     (tt, tt, refl, let z : 0 + length (into_iter_items c.into_iter-letters-iterator.result) ≤ 64 = omega arith in z)
 
@@ -51,4 +51,4 @@ returns c =
     sym (append-nil old)
     ∙ ap (λ l. old ++ batches_from i k r c.loop-letters.to (map letters_of l)) (sym none)
     ∙ c.loop-letters.invariant.2
-    ∙ ap (λ l. parcels_of (vec_items c.args.says.now) ++ batches_from i k r 0 (map letters_of l)) c.into_iter-letters-iterator.ensures.into_iter-gives.0
+    ∙ ap (λ l. parcels_of (vec_items c.args.says.now) ++ batches_from i k r 0 (map letters_of l)) c.into_iter-letters-iterator.ensures.into_iter_gives.0

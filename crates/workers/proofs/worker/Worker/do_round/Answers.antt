@@ -23,25 +23,14 @@ invariant_of-self-2 g c =
     let next = c.work_places.new.next in
     let worked : worked_of next ≡ view_of_turns ts =
     c.in_ok-work_places.ensures.worked ∙ (λ i. view_of_turns (turns_of b r post (c.as_slice.ensures.value i) ss (c.as_slice-2.ensures.value i))) in
-    let many : length ts ≡ length ps = turns_length b r post ps ss bs s.known s.told in (
-      s.owns,
-      (
-        s.known,
-        (
-          s.told,
-          (
-            s.fits,
-            (
-              c.in_ok-work_places.ensures.places ∙ c.clear.ensures.1 ∙ s.beside,
-              (
-                (λ _. ap (λ (v : View). length v.states) worked ∙ length-map ts (λ (t : Turn). t.state) ∙ many),
-                (
-                  (λ _. ap (λ (v : View). length v.rests) worked ∙ length-map ts (λ (t : Turn). t.rests) ∙ many),
-                  ((λ _. subst (λ (v : View). Capped v.states) (sym worked) (turns_fit b r post (λ x h. g.met.P.Plan.fits c.args.plan.now x h) ps ss bs s.fits)), tt),
-                ),
-              ),
-            ),
-          ),
-        ),
-      ),
-    )
+    let many : length ts ≡ length ps = turns_length b r post ps ss bs s.known s.told in
+    record {
+      owns = s.owns;
+      known = s.known;
+      told = s.told;
+      fits = s.fits;
+      beside = c.in_ok-work_places.ensures.places ∙ c.clear.ensures.1 ∙ s.beside;
+      next_known = λ _. ap (λ (v : View). length v.states) worked ∙ length-map ts (λ (t : Turn). t.state) ∙ many;
+      next_told = λ _. ap (λ (v : View). length v.rests) worked ∙ length-map ts (λ (t : Turn). t.rests) ∙ many;
+      next_fits = λ _. subst (λ (v : View). Capped v.states) (sym worked) (turns_fit b r post (λ x h. g.met.P.Plan.fits c.args.plan.now x h) ps ss bs s.fits);
+    }

@@ -13,19 +13,17 @@ pub invariant_of-result : goal.invariant_of-result
 invariant_of-result g c =
     let f : ℕ → List ℕ = (g.P.Plan.program c.args.plan.now).first in
     let v = c.in_ok-mine.mine in
-    let states : items c.in_ok-states.states ≡ map f (vec_items v) = c.in_ok-states.ensures ∙ ap (map f) c.as_slice.ensures.value in (
-      c.in_ok-mine.ensures,
-      (
-        ap length states ∙ length-map (vec_items v) f,
-        (
-          sym c.resize.new.self.ok.0 ∙ c.in_ok-resize.ensures.len ∙ c.len.ensures ∙ v.ok.0,
-          (
-            subst Capped (sym states) (firsts_fit f (vec_items v) (λ u. g.met.P.Plan.first_fits c.args.plan.now u)),
-            (c.in_ok-next.ensures.1 ∙ c.places-2.ensures, ((λ e. absurd (clash e)), ((λ e. absurd (clash e)), ((λ e. absurd (clash e)), tt)))),
-          ),
-        ),
-      ),
-    )
+    let states : items c.in_ok-states.states ≡ map f (vec_items v) = c.in_ok-states.ensures ∙ ap (map f) c.as_slice.ensures.value in
+    record {
+      owns = c.in_ok-mine.ensures;
+      known = ap length states ∙ length-map (vec_items v) f;
+      told = sym c.resize.new.self.ok.0 ∙ c.in_ok-resize.ensures.len ∙ c.len.ensures ∙ v.ok.0;
+      fits = subst Capped (sym states) (firsts_fit f (vec_items v) (λ u. g.met.P.Plan.first_fits c.args.plan.now u));
+      beside = c.in_ok-next.ensures.1 ∙ c.places-2.ensures;
+      next_known = λ e. absurd (clash e);
+      next_told = λ e. absurd (clash e);
+      next_fits = λ e. absurd (clash e);
+    }
 
 pub returns : goal.returns
 returns g c =

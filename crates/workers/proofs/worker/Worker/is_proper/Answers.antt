@@ -8,6 +8,6 @@ pub returns-then-are_workers : goal.returns-then-are_workers
 returns-then-are_workers c =
     let ls = letters_of c.args.letters.now in
     let n = c.args.self.now.table.places in
-    c.well_formed-2.ensures
+    c.well_formed-then-are_workers.ensures
     ∙ ap (λ k. rising_from 0 ls && named k ls) c.places.ensures
     ∙ ap (λ t. t && (rising_from 0 ls && named n ls)) (sym c.if-are_workers.true ∙ c.are_workers.ensures)

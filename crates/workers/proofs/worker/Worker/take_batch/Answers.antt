@@ -17,11 +17,11 @@ returns-in-Refused c =
           (record { state = refl; appends = ap records_of a.appends; says = ap parcels_of a.says; outcome = a.outcome });
     }
 
-pub returns-in_ok-answer : goal.returns-in_ok-answer
-returns-in_ok-answer c =
+pub returns-in_ok-answer-in-Taken : goal.returns-in_ok-answer-in-Taken
+returns-in_ok-answer-in-Taken c =
     let s = c.args.self.now in
     record {
-      same = c.in_ok-answer.ensures.same;
-      replied = λ q js. subst (λ o. Replied (W.took_by (job_in s q) s.me.0 js (worker_of s) c.args.line.0 (Batch c.args.attempt.0 c.args.round.0 c.args.from.0 c.args.to.0 (letters_of c.args.letters.now)) o) c.put_batch.new.self c.in_ok-answer.answer) (c.in-Taken.ensures.judged q js)
-          (c.in_ok-answer.ensures.replied q);
+      same = c.in_ok-answer-in-Taken.ensures.same;
+      replied = λ q js. subst (λ o. Replied (W.took_by (job_in s q) s.me.0 js (worker_of s) c.args.line.0 (Batch c.args.attempt.0 c.args.round.0 c.args.from.0 c.args.to.0 (letters_of c.args.letters.now)) o) c.put_batch.new.self c.in_ok-answer-in-Taken.answer) (c.in-Taken.ensures.judged q js)
+          (c.in_ok-answer-in-Taken.ensures.replied q);
     }

@@ -17,11 +17,11 @@ returns-in-Refused c =
           (record { state = refl; appends = ap records_of a.appends; says = ap parcels_of a.says; outcome = a.outcome });
     }
 
-pub returns-in_ok-answer : goal.returns-in_ok-answer
-returns-in_ok-answer c =
+pub returns-in_ok-answer-in-Taken : goal.returns-in_ok-answer-in-Taken
+returns-in_ok-answer-in-Taken c =
     let s = c.args.self.now in
     record {
-      same = c.in_ok-answer.ensures.same;
-      replied = λ q js n. subst (λ o. Replied (W.took_by (job_in s q) s.me.0 js (worker_of s) c.args.line.0 (Go c.args.attempt.0 c.args.round.0 n c.args.over) o) c.go_on.new.self c.in_ok-answer.answer) (c.in-Taken.ensures.judged q js n c.args.over)
-          (c.in_ok-answer.ensures.replied q);
+      same = c.in_ok-answer-in-Taken.ensures.same;
+      replied = λ q js n. subst (λ o. Replied (W.took_by (job_in s q) s.me.0 js (worker_of s) c.args.line.0 (Go c.args.attempt.0 c.args.round.0 n c.args.over) o) c.go_on.new.self c.in_ok-answer-in-Taken.answer) (c.in-Taken.ensures.judged q js n c.args.over)
+          (c.in_ok-answer-in-Taken.ensures.replied q);
     }

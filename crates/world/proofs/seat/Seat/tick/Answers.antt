@@ -6,14 +6,14 @@ use Rattle.world.specs.Seated.{seat_of}
 use Rattle.world.proofs.Sitting.{call_same, made_from, seat_did, still_sits}
 use Rattle.world.proofs.seat.Seat.tick.Goals as goal
 
-pub returns-in_ok-answer : goal.returns-in_ok-answer
-returns-in_ok-answer g c =
+pub returns-in_ok-answer-in-Some : goal.returns-in_ok-answer-in-Some
+returns-in_ok-answer-in-Some g c =
     let s = c.args.self.now in
     let t = c.args.table.now in
     let q = g.P.Plan.program c.args.plan.now in
-    let told = c.in_ok-answer.ensures in
+    let told = c.in_ok-answer-in-Some.ensures in
     let e = call_same t q s.me.0 Tick (vec_items s.journal.records) _ s.worker c.in-Some.worker c.requires.1 c.in-Some.is refl in
     record {
-      did = made_from _ _ _ c.keep.result c.keep.ensures (λ ps h. seat_did (job_of t q) s.me.0 Tick (seat_of s) _ c.in-Some.worker c.in_ok-answer.answer (vec_items s.journal.records) _ _ e (told q) refl h.0 (ap parcels_of h.1));
+      did = made_from _ _ _ c.keep.result c.keep.ensures (λ ps h. seat_did (job_of t q) s.me.0 Tick (seat_of s) _ c.in-Some.worker c.in_ok-answer-in-Some.answer (vec_items s.journal.records) _ _ e (told q) refl h.0 (ap parcels_of h.1));
       sits = (refl, still_sits t s.me.0 s.worker c.in-Some.worker c.in-Some.worker c.requires.1 c.in-Some.is refl refl);
     }

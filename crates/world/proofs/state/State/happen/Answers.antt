@@ -4,7 +4,7 @@ use Rattle.world.proofs.state.State.happen.Goals as goal
 
 pub returns : goal.returns
 returns g c =
-    let q = g.S.P.Plan.program c.args.plan.now in
+    let q = g.P.Plan.program c.args.plan.now in
     record {
       leads = c.befall.ensures.leads;
       same = c.befall.ensures.same;

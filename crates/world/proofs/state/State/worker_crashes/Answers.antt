@@ -16,7 +16,7 @@ invariant_of-self c =
     let lt : c.args.i < length xs = omega (arith, s.seats.ok.0, c.requires) in
     let sits : Sits s.table (get_or xs c.args.i x).me.0 y = (me, subst (Agrees s.table (get_or xs c.args.i x).me.0) (sym c.crash.ensures.down) (refl, refl)) in
     let seated : Seated s.table _ = seated_set s.table xs c.args.i x y lt (s.numbered, s.manned, s.alike) sits in
-    (s.many, (seated.0, (seated.1, (seated.2, (s.headed, tt)))))
+    record { many = s.many; numbered = seated.0; manned = seated.1; alike = seated.2; headed = s.headed }
 
 pub returns : goal.returns
 returns c =

@@ -1,4 +1,6 @@
 // Letters between workers: put together, cut up, copied and judged.
+#![tactic(auto)]
+
 mod copied;
 mod judged;
 mod merged;

@@ -8,7 +8,7 @@ use Rattle.crew.specs.Messages.{Message, Batch, Ready, Go, Anew, PutBy, Hello, P
 use Rattle.crew.specs.Outcomes.{Reasons, wrong_kind, only_full, judged, is_taken}
 use Rattle.crew.specs.Worker.{attempt_cap, is_due}
 use Rattle.crew.specs.declared.outcome.Outcome.{Outcome}
-use Rattle.crew.specs.declared.outcome.Outcome.TheVariants.{Taken, Refused}
+use Rattle.crew.specs.declared.outcome.Outcome.TheVariants.{Taken}
 
 -- attempt, start: the attempt that it began last, and from which round
 -- at: the round that all are in; ready: who is ready for the next; ending: all of these said that theirs is over

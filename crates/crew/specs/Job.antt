@@ -1,8 +1,7 @@
 -- What all machines are given, and what a worker has of a world.
 -- Assumes nothing.
-use Rattle.std.specs.Prelude.{◌≡◌, ℕ, zero, suc, ◌<◌, ◌≤◌, Bool, true, false, ◌&&◌, List, [], ◌∷◌, ◌++◌, map, filter, nat_eq}
+use Rattle.std.specs.Prelude.{ℕ, zero, suc, ◌<◌, ◌≤◌, Bool, true, ◌&&◌, List, map, filter, nat_eq}
 use Rattle.std.specs.List.{range_with_len}
-use Rattle.meaning.specs.Caps.{place_cap}
 use Rattle.meaning.specs.Meaning.{Letter, Program, World, View, rounds}
 
 -- How many places there are and what they do; how many workers, and who has which place (the partition).

@@ -1,6 +1,6 @@
 -- What machines keep across a crash: records, the oldest first.
 -- Assumes nothing.
-use Rattle.std.specs.Prelude.{ℕ, max, Bool, cond, List, [], ◌∷◌, Some, None, Option, ◌==◌, nat_lt}
+use Rattle.std.specs.Prelude.{ℕ, max, cond, List, [], ◌∷◌, Some, None, Option, ◌==◌, nat_lt}
 use Rattle.meaning.specs.Meaning.{View}
 
 -- a worker's: what it had after a round; an attempt that it joined

@@ -1,6 +1,6 @@
 -- Messages and records as they are stored.
 -- Assumes nothing.
-use Rattle.std.specs.Prelude.{ℕ, List, map, vec_items}
+use Rattle.std.specs.Prelude.{List, map, vec_items}
 use Rattle.packed.specs.Strings.{items}
 use Rattle.meaning.specs.Meaning.{Letter, View}
 use Rattle.meaning.specs.Packets.{letters_of}

@@ -1,15 +1,15 @@
 -- A worker: its state, and what each call comes to.
 -- Assumes nothing.
-use Rattle.std.specs.Prelude.{ℕ, zero, suc, ◌+◌, ◌%◌, ◌^◌, Bool, true, false, cond, not, ◌&&◌, ◌||◌, List, [], ◌∷◌, ◌++◌, map, is_some, Some, None, Option, ◌==◌, nat_le, nat_lt}
+use Rattle.std.specs.Prelude.{ℕ, zero, suc, ◌+◌, ◌%◌, Bool, true, false, cond, not, ◌&&◌, ◌||◌, List, [], ◌∷◌, ◌++◌, map, is_some, Some, None, Option, ◌==◌, nat_le, nat_lt}
 use Rattle.std.specs.List.{range_with_len}
 use Rattle.meaning.specs.Caps.{round_cap}
-use Rattle.meaning.specs.Meaning.{Letter, Input, Turn, World, View, letters_for, none, turn, start}
+use Rattle.meaning.specs.Meaning.{Letter, Turn, View, letters_for, none, turn, start}
 use Rattle.crew.specs.Job.{Job, places_of, letters_to, share_of, all_below}
 use Rattle.crew.specs.Journals.{Record, Checkpoint, Joined, last_joined, checkpoint_of, greatest_below}
 use Rattle.crew.specs.Messages.{Message, Batch, Ready, Go, Anew, PutBy, Hello, Parcel, foreman_line}
 use Rattle.crew.specs.Outcomes.{Reasons, wrong_kind, only_full, outcome_number, judged, is_taken}
 use Rattle.crew.specs.declared.outcome.Outcome.{Outcome}
-use Rattle.crew.specs.declared.outcome.Outcome.TheVariants.{Taken, Refused}
+use Rattle.crew.specs.declared.outcome.Outcome.TheVariants.{Taken}
 
 -- joined: it is in its attempt; one that came up is out until it joins one
 -- round, share: how many rounds are done, and what it has after them

@@ -1,4 +1,6 @@
 // What machines say to each other and keep, what each call comes to (specs/), and the foreman, who paces the rounds.
+#![tactic(auto)]
+
 mod foreman;
 mod journal;
 mod message;

@@ -1,7 +1,7 @@
 -- A case: a plan, places, who has which, what happens, and what is expected of it. What happens is done by the
 -- definitions that the code's contracts cite.
 -- Assumes nothing.
-use Rattle.std.specs.Prelude.{◌≡◌, ℕ, Bool, List, [], ◌∷◌, map, length, Some, None, filter, Option, nat_eq, slice_index_or}
+use Rattle.std.specs.Prelude.{◌≡◌, ℕ, Bool, List, [], map, length, Some, None, filter, Option, nat_eq, slice_index_or}
 use Rattle.std.specs.List.{range_with_len, AllByRecursion}
 use Rattle.meaning.specs.Meaning.{Letter, Program, World, letters_for, rounds, all_rest, is_over}
 use Rattle.crew.specs.Foreman.{Foreman}

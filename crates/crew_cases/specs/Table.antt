@@ -1,14 +1,14 @@
 -- The table of cases, and that every row comes to what it expects.
 -- Assumes nothing.
-use Rattle.std.specs.Prelude.{ℕ, ◌+◌, ◌/◌, ◌%◌, Bool, true, false, List, [], ◌∷◌, ◌++◌, length}
+use Rattle.std.specs.Prelude.{ℕ, ◌+◌, ◌/◌, ◌%◌, true, false, List, [], ◌∷◌, ◌++◌, length}
 use Rattle.std.specs.List.{AllByRecursion}
-use Rattle.meaning.specs.Meaning.{Letter, Program, Input, Output}
+use Rattle.meaning.specs.Meaning.{Letter, Program}
 use Rattle.crew.specs.Messages.{Batch}
 use Rattle.plans.specs.Echo.{keeping}
 use Rattle.plans.specs.Sum.{adding}
 use Rattle.runs.specs.Played.{Event, Up, Works, Hears, Crash}
 use Rattle.runs.specs.Tour.{a_round, times, joins}
-use Rattle.crew_cases.specs.Rows.{Row, Happening, alone, crew, Expected, state, letters, resting, over, worker, foreman, comes_to, Holds}
+use Rattle.crew_cases.specs.Rows.{Row, alone, crew, Expected, state, letters, resting, over, worker, foreman, comes_to, Holds}
 
 -- one machine has all
 abbrev pub one : ℕ → ℕ

@@ -1,4 +1,6 @@
 // Worked cases: rows of one table, with one theorem that every row comes to what it expects.
+#![tactic(auto)]
+
 ghost use Rattle.crew_cases.specs.Table.{EveryRowHolds};
 
 pub fn every_row_holds()

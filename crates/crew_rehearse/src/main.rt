@@ -1,4 +1,6 @@
 // Plays a script, read from standard input, and prints what came of it.
+#![tactic(auto)]
+
 mod crews;
 mod progress;
 

@@ -1,6 +1,6 @@
 -- Which texts are good scripts, with no word of how they are read.
 -- Assumes nothing.
-use Rattle.std.specs.Prelude.{◌≡◌, ℕ, ◌<◌, Bool, true, false, List, [], ◌∷◌, map, Some, Ok, Option, Result}
+use Rattle.std.specs.Prelude.{◌≡◌, ℕ, ◌<◌, true, List, [], ◌∷◌, map, Some, Ok, Option, Result}
 use Rattle.crew_script.specs.declared.settings.Choice.{Choice}
 use Rattle.crew_script.specs.declared.settings.Span.{Span}
 use Rattle.crew_script.specs.declared.settings.Event.{Event}

@@ -1,4 +1,6 @@
 // The language of the program `rehearse`: the scripts that it reads, and the lines that it prints.
+#![tactic(auto)]
+
 mod complaints;
 mod draws;
 mod events;

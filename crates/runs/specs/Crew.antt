@@ -1,15 +1,14 @@
 -- A crew as a program holds it: the machines, their journals, and of all that was ever said only what is still under way.
 -- Each event is one call of one machine, a crash, or something that befalls the message that is due next.
 -- Assumes nothing.
-use Rattle.std.specs.Prelude.{◌≡◌, ℕ, ◌<◌, Bool, true, false, cond, List, [], ◌∷◌, ◌++◌, map, take, drop, Some, None, Option, ◌==◌, nat_lt}
+use Rattle.std.specs.Prelude.{ℕ, cond, List, [], ◌∷◌, ◌++◌, take, drop, None, ◌==◌, nat_lt}
 use mathlib.Core.List.{Memᴰ}
-use Rattle.meaning.specs.Meaning.{View, is_over}
-use Rattle.crew.specs.Job.{Job, meant, share_of}
+use Rattle.crew.specs.Job.{Job}
 use Rattle.crew.specs.Journals.{Record, Note}
-use Rattle.crew.specs.Messages.{Message, Parcel, foreman_line}
+use Rattle.crew.specs.Messages.{Parcel, foreman_line}
 use Rattle.crew.specs.Worker as W
 use Rattle.crew.specs.Foreman as F
-use Rattle.runs.specs.World.{World, Machine, Effect, Call, Open, Take, Tick, Work, worker_call, foreman_call, after, cut_after, put, Reach}
+use Rattle.runs.specs.World.{World, Machine, Effect, Call, Open, Take, Tick, Work, worker_call, foreman_call, after, put, Reach}
 
 pub record Crew : Type 0 where
   pub worker : ℕ → Machine W.Worker Record

@@ -1,9 +1,9 @@
 -- Runs that are given by a schedule, and computed by the machines' own calls.
 -- Assumes nothing.
-use Rattle.std.specs.Prelude.{ℕ, zero, suc, Bool, true, false, cond, List, [], ◌∷◌, ◌++◌, reverse, ◌==◌, nat_lt}
+use Rattle.std.specs.Prelude.{ℕ, cond, List, [], ◌∷◌, ◌==◌, nat_lt}
 use Rattle.crew.specs.Job.{Job}
 use Rattle.crew.specs.Messages.{Parcel, foreman_line}
-use Rattle.runs.specs.World.{World, Call, Open, Take, Tick, Work, worker_did, worker_cut, foreman_did, foreman_cut, began}
+use Rattle.runs.specs.World.{World, Call, Open, Take, Tick, Work, worker_did, worker_cut, foreman_did, foreman_cut}
 
 -- machine j does a call: a worker, or the foreman
 abbrev pub does : Job → ℕ → Call → World → World

@@ -1,17 +1,17 @@
 -- What is promised of every run. Each is a type, and stands on the contract of a public function.
 -- Assumes nothing.
-use Rattle.std.specs.Prelude.{◌≡◌, ℕ, suc, ◌+◌, ◌*◌, ◌<◌, ◌≤◌, Bool, true, false, ◌&&◌, ◌⊎◌, List, [], ◌∷◌, map, Some, None, Option, ◌≢◌}
+use Rattle.std.specs.Prelude.{◌≡◌, ℕ, suc, ◌+◌, ◌*◌, ◌<◌, ◌≤◌, Bool, true, false, ◌&&◌, ◌⊎◌, List, map, Some, ◌≢◌}
 use mathlib.Core.List.{Memᴰ}
 use Rattle.std.specs.List.{AllByRecursion}
 use Rattle.meaning.specs.Caps.{round_cap}
 use Rattle.meaning.specs.Meaning.{Letter, View, none, is_over}
 use Rattle.crew.specs.Job.{Job, Proper, meant, places_of, letters_to, letters_by, share_of}
-use Rattle.crew.specs.Journals.{Record, Checkpoint, Joined, Note, last_began}
+use Rattle.crew.specs.Journals.{Record, Checkpoint, Joined, last_began}
 use Rattle.crew.specs.Messages.{Message, Batch, Ready, Go, Anew, PutBy, Hello, Parcel, foreman_line}
 use Rattle.crew.specs.Outcomes.{outcome_number}
 use Rattle.crew.specs.Worker.{Worker, attempt_cap, all_true, took}
 use Rattle.crew.specs.Foreman.{Foreman, ticked}
-use Rattle.runs.specs.World.{World, Machine, Reach, Way}
+use Rattle.runs.specs.World.{World, Reach, Way}
 
 -- WHAT IS TRUE
 

@@ -1,11 +1,11 @@
 -- A run with everything in it, so that the promises are not empty talk.
 -- Assumes nothing.
 use Rattle.std.specs.Prelude.{◌≡◌, ℕ, zero, suc, ◌+◌, ◌%◌, Bool, true, false, cond, List, [], ◌∷◌, ◌++◌, length, Some, None, Option, nat_lt}
-use Rattle.meaning.specs.Meaning.{Program, Input, Output}
+use Rattle.meaning.specs.Meaning.{Program}
 use Rattle.crew.specs.Job.{Job}
 use Rattle.crew.specs.Foreman.{Foreman}
 use Rattle.crew.specs.Worker.{Worker}
-use Rattle.runs.specs.World.{World, Reach, began}
+use Rattle.runs.specs.World.{Reach, began}
 use Rattle.runs.specs.Played.{Event, Up, Works, Hears, Crash, plays}
 
 -- Each place writes down the round and how many letters came, and sends the next place a letter, up to round 12.

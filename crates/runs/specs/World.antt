@@ -2,7 +2,7 @@
 -- machine, whole or cut short by a crash. Lines lose, double, delay and reorder: a message is any that was ever said to
 -- the machine, any number of times, at any time.
 -- Assumes nothing.
-use Rattle.std.specs.Prelude.{ℕ, ◌<◌, Bool, true, false, cond, List, [], ◌∷◌, ◌++◌, length, take, Some, None, Option, ◌==◌, nat_le}
+use Rattle.std.specs.Prelude.{ℕ, ◌<◌, cond, List, [], ◌++◌, length, take, Some, None, Option, ◌==◌, nat_le}
 use mathlib.Core.List.{Memᴰ}
 use Rattle.crew.specs.Job.{Job}
 use Rattle.crew.specs.Journals.{Record, Note}

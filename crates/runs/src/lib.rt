@@ -1,2 +1,4 @@
 // Every run of a crew, and what is promised of it.
+#![tactic(auto)]
+
 pub mod laws;

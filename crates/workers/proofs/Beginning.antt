@@ -1,5 +1,5 @@
 -- What places begin with.
-use Rattle.std.proofs.Common.{◌≡◌, ℕ, zero, suc, ◌-◌, ◌≤◌, Bool, false, List, [], ◌∷◌, ◌++◌, map, length, get_or, take, replicate, sym, refl, ap, ◌∙◌, arith}
+use Rattle.std.proofs.Common.{◌≡◌, ℕ, zero, suc, ◌-◌, ◌≤◌, Bool, false, List, [], ◌∷◌, ◌++◌, map, length, take, replicate, refl, ap, ◌∙◌, arith}
 use lib.Seq.{take-nil}
 use Rattle.meaning.specs.Caps.{state_cap}
 use Rattle.rounds.specs.Sight.{Capped}

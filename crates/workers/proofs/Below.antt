@@ -1,5 +1,5 @@
 -- What holds of each number below another, from the last on.
-use Rattle.std.proofs.Common.{◌≡◌, ℕ, zero, suc, ◌-◌, ◌<◌, Bool, true, false, ◌&&◌, sym, refl, ap, ◌∙◌, arith}
+use Rattle.std.proofs.Common.{◌≡◌, ℕ, zero, suc, ◌-◌, ◌<◌, Bool, true, false, ◌&&◌, sym, ap, ◌∙◌, arith}
 use Rattle.crew.specs.Job.{all_below}
 
 module _ (f : ℕ → Bool) where

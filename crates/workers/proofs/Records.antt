@@ -1,5 +1,5 @@
 -- A journal read record by record.
-use Rattle.std.proofs.Common.{◌≡◌, ℕ, max, Bool, true, false, cond, eqb, ltb, List, [], ◌∷◌, ◌++◌, Some, None, Option, sym, refl, ap, ◌∙◌, arith}
+use Rattle.std.proofs.Common.{◌≡◌, ℕ, Bool, true, false, cond, eqb, List, [], ◌∷◌, ◌++◌, Some, None, Option, refl, ◌∙◌, arith}
 use Rattle.meaning.specs.Meaning.{View}
 use Rattle.crew.specs.Journals.{Record, Checkpoint, Joined, last_joined, checkpoint_from, checkpoint_of, greatest_below}
 

@@ -1,5 +1,5 @@
 -- A batch to each of so many workers.
-use Rattle.std.proofs.Common.{◌≡◌, ℕ, zero, suc, ◌+◌, List, [], ◌∷◌, map, refl, ap}
+use Rattle.std.proofs.Common.{◌≡◌, ℕ, zero, suc, ◌+◌, List, ◌∷◌, map, refl, ap}
 use Rattle.std.specs.List.{range_with_len}
 use Rattle.meaning.specs.Meaning.{Letter}
 use Rattle.workers.specs.Saying.{batch_with, batches_from}

@@ -1,4 +1,6 @@
 // A worker: its share of the places, and its calls.
+#![tactic(auto)]
+
 mod answer;
 mod got;
 mod history;

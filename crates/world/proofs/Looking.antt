@@ -1,6 +1,6 @@
 -- What is seen of a place is what the meaning says.
 -- Assumes nothing.
-use Rattle.std.proofs.Common.{◌≡◌, ℕ, ◌<◌, Bool, true, false, List, [], map, length, get_or, Some, None, vec_items, vec_len, Option, sym, refl, ap, ◌∙◌, subst, arith}
+use Rattle.std.proofs.Common.{◌≡◌, ℕ, ◌<◌, Bool, false, List, [], length, get_or, Some, vec_items, vec_len, sym, ap, ◌∙◌, subst, arith}
 use lib.ListN.{length-map}
 use Rattle.std.proofs.lemmas.List.{get_or-map}
 use Rattle.std.specs.Option.{option_map}
@@ -14,7 +14,7 @@ use Rattle.workers.specs.Crewed.{worker_of}
 use Rattle.workers.specs.Mine.{mine_of}
 use Rattle.workers.specs.declared.worker.Worker.{Worker}
 use Rattle.world.specs.Looks.{Reached}
-use Rattle.world.specs.Seated.{Agrees, Sits, seat_of, table_of}
+use Rattle.world.specs.Seated.{Agrees, Sits, table_of}
 use Rattle.world.specs.Staged.{crew_of}
 use Rattle.world.specs.declared.seat.Seat.{Seat}
 use Rattle.world.specs.declared.state.State.{State}

@@ -1,6 +1,6 @@
 -- What the foreman came to, and its journal that has kept what was owed, are a call of the model.
 -- Assumes nothing.
-use Rattle.std.proofs.Common.{◌≡◌, ℕ, true, false, List, [], ◌++◌, is_some, IfOk, Some, None, Ok, Err, vec_items, Option, Result, sym, refl, ap, ◌∙◌, subst, append-nil}
+use Rattle.std.proofs.Common.{◌≡◌, ℕ, false, List, [], ◌++◌, is_some, IfOk, Some, None, Ok, Err, vec_items, Option, Result, sym, refl, ap, ◌∙◌, subst, append-nil}
 use Rattle.std.proofs.lemmas.Bool.{true≢false}
 use Rattle.std.specs.Option.{option_map}
 use Rattle.meaning.specs.Meaning.{Letter}
@@ -8,13 +8,13 @@ use Rattle.crew.specs.Foreman as F
 use Rattle.crew.specs.Job.{Job}
 use Rattle.crew.specs.Journals as J
 use Rattle.crew.specs.Messages as M
-use Rattle.crew.specs.Paced.{foreman_of, reply_of, Gives}
+use Rattle.crew.specs.Paced.{foreman_of, reply_of}
 use Rattle.crew.specs.Stored.{message_of, parcels_of, notes_of}
 use Rattle.crew.specs.declared.foreman.Foreman.{Foreman}
 use Rattle.crew.specs.declared.foreman.Paced.{Paced}
 use Rattle.crew.specs.declared.message.Kind.{Kind}
 use Rattle.crew.specs.declared.message.Kind.TheVariants as kind
-use Rattle.runs.specs.World.{Machine, Effect, Call, Open, Take, Tick, by_foreman, after, foreman_call}
+use Rattle.runs.specs.World.{Machine, Effect, Call, by_foreman, after, foreman_call}
 use Rattle.world.specs.Paced.{Heads, Led}
 
 -- letters play no part in what a message comes to at the foreman

@@ -1,6 +1,6 @@
 -- Each event of a crew keeps that some run leads to it.
 -- Assumes nothing.
-use Rattle.std.proofs.Common.{◌≡◌, sym, ap, subst}
+use Rattle.std.proofs.Common.{◌≡◌, sym, subst}
 use Rattle.meaning.specs.Meaning.{Program}
 use Rattle.crew.specs.Job.{Job}
 use Rattle.crew.specs.Shared.{job_of}

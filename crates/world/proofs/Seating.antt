@@ -1,9 +1,9 @@
 -- Seats in a row, of which one changes.
 -- Assumes nothing.
-use Rattle.std.proofs.Common.{◌≡◌, ℕ, ◌<◌, ◌≤◌, Bool, true, false, cond, eqb, List, [], ◌∷◌, ◌++◌, map, length, get_or, set, Some, None, Option, sym, refl, ap, ◌∙◌, subst, ⊎_elim, arith, length-set}
+use Rattle.std.proofs.Common.{◌≡◌, ℕ, ◌<◌, Bool, true, false, cond, eqb, List, [], ◌∷◌, ◌++◌, map, length, get_or, set, None, Option, sym, refl, ap, ◌∙◌, subst, ⊎_elim, arith, length-set}
 use lib.ListN.{length-map}
 use Rattle.std.proofs.lemmas.List.{get_or_append_left, get_or-map, get_or_past, get_or_push, get_or-set_other, get_or-set_same, length_push, map-append, map-set}
-use Rattle.std.proofs.lemmas.Bool.{cases_eq, cases_lt, eqb-true, eqb-false, eq-eqb, ne_eqb}
+use Rattle.std.proofs.lemmas.Bool.{cases_eq, cases_lt, eqb-true, eqb-false}
 use Rattle.crew.specs.Job.{Job}
 use Rattle.crew.specs.Journals.{Record}
 use Rattle.crew.specs.Messages.{Parcel}
@@ -11,7 +11,7 @@ use Rattle.crew.specs.Worker as W
 use Rattle.crew.specs.declared.partition.Partition.{Partition}
 use Rattle.runs.specs.World.{Machine, Call, Effect, after, put, worker_call}
 use Rattle.workers.specs.declared.worker.Worker.{Worker}
-use Rattle.world.specs.Seated.{seat_of, table_of, line_in, table_in, Agrees, Sits, worker_at, Numbered, Manned, Alike, Seated, nobody, seat_at, all_down, Did}
+use Rattle.world.specs.Seated.{seat_of, table_of, line_in, table_in, Sits, worker_at, Numbered, Seated, nobody, seat_at, all_down, Did}
 use Rattle.world.specs.Staged.{Moved}
 use Rattle.world.specs.declared.seat.Seat.{Seat}
 

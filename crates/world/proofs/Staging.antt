@@ -13,7 +13,7 @@ use Rattle.crew.specs.Stored.{message_of, parcel_of, parcels_of}
 use Rattle.meaning.specs.Packets.{letters_of}
 use Rattle.meaning.specs.declared.letters.Letters.{Letters}
 use Rattle.crew.specs.declared.message.Parcel.{Parcel}
-use Rattle.runs.specs.Crew.{Crew, acts, doubled, doubled_of, foreman_acts, handed, worker_acts, behind as behind_of}
+use Rattle.runs.specs.Crew.{doubled, doubled_of, foreman_acts, handed, worker_acts, behind as behind_of}
 use Rattle.runs.specs.World.{Call, Machine}
 use Rattle.world.specs.Paced.{Led, desk_of}
 use Rattle.world.specs.Seated.{seat_at}

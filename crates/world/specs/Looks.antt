@@ -1,7 +1,7 @@
 -- What is seen of a crew.
 -- Assumes nothing.
-use Rattle.std.specs.Prelude.{◌≡◌, ℕ}
-use Rattle.meaning.specs.Meaning.{Program, rounds}
+use Rattle.std.specs.Prelude.{◌≡◌}
+use Rattle.meaning.specs.Meaning.{Program}
 use Rattle.crew.specs.Shared.{job_of}
 use Rattle.crew.specs.Job.{meant}
 use Rattle.runs.specs.Crew.{Led}

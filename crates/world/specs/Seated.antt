@@ -5,9 +5,8 @@ use Rattle.std.specs.Option.{option_map}
 use Rattle.crew.specs.Job.{Job}
 use Rattle.crew.specs.Journals.{Record}
 use Rattle.crew.specs.Messages.{Parcel}
-use Rattle.crew.specs.Stored.{records_of, parcels_of}
+use Rattle.crew.specs.Stored.{records_of}
 use Rattle.crew.specs.Worker as W
-use Rattle.crew.specs.declared.message.Parcel as stored
 use Rattle.crew.specs.declared.partition.Partition.{Partition}
 use Rattle.runs.specs.World.{Machine, Call, after, worker_call}
 use Rattle.workers.specs.Crewed.{worker_of}

@@ -3,12 +3,10 @@
 use Rattle.std.specs.Prelude.{◌≡◌, ℕ, List, [], ◌∷◌, Some, None, vec_items, Option}
 use Rattle.std.specs.VecDeque.{deque_items}
 use Rattle.crew.specs.Job.{Job}
-use Rattle.crew.specs.Journals.{Record}
 use Rattle.crew.specs.Messages.{Parcel}
 use Rattle.crew.specs.Stored.{parcels_of}
-use Rattle.crew.specs.Worker.{Worker}
 use Rattle.runs.specs.Crew.{Crew}
-use Rattle.runs.specs.World.{Machine, Call, after, put, worker_call}
+use Rattle.runs.specs.World.{Call, after, put, worker_call}
 use Rattle.world.specs.Paced.{desk_of}
 use Rattle.world.specs.Seated.{seat_at}
 use Rattle.world.specs.declared.seat.Seat.{Seat}

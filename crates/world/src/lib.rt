@@ -1,4 +1,6 @@
 // A whole crew in one program: its machines, their journals, and what is under way.
+#![tactic(auto)]
+
 mod desk;
 mod event;
 mod look;

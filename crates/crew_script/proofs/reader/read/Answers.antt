@@ -2,7 +2,7 @@ use Rattle.std.proofs.Common.{◌≡◌, ℕ, ◌+◌, ◌<◌, ◌≤◌, List,
 use Rattle.std.proofs.lemmas.Result.{MatchResult-weaker, err_from_is_err_and}
 use Rattle.crew_script.specs.declared.given.Given.{Given}
 use Rattle.crew_script.specs.declared.statements.Statement.{Statement}
-use Rattle.crew_script.specs.Script.{added_to, all_of, asked_by, complaints_of, each, events_of, faults_from, missing, noted_at, outcome, outcome_of, said_in, statements_of, stretches_of, unsaid, weight_of}
+use Rattle.crew_script.specs.Script.{added_to, all_of, asked_by, each, events_of, faults_from, missing, noted_at, outcome, outcome_of, said_in, statements_of, stretches_of, unsaid, weight_of}
 use Rattle.crew_script.specs.Told.{told_by}
 use Rattle.crew_script.specs.Text.{lines_of}
 use Rattle.crew_script.proofs.Lining.{each_last, each_more, each_some, faults_last, faults_more, faults_some, within}

@@ -1,4 +1,4 @@
-use Rattle.std.proofs.Common.{◌≡◌, ℕ, ◌-◌, Bool, false, List, [], ◌++◌, map, length, take, replicate, vec_items, sym, refl, ap, ◌∙◌}
+use Rattle.std.proofs.Common.{◌≡◌, ◌-◌, false, ◌++◌, map, length, take, replicate, vec_items, refl, ◌∙◌}
 use Rattle.workers.proofs.Beginning.{none_rest}
 use Rattle.workers.proofs.shares.first_share.Goals as goal
 

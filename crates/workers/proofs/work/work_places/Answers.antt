@@ -1,10 +1,9 @@
-use Rattle.std.proofs.Common.{◌≡◌, ◌≤◌, false, [], length, get_or, take, sym, refl, ap, ◌∙◌, subst, arith}
+use Rattle.std.proofs.Common.{◌≤◌, false, length, get_or, sym, ◌∙◌, arith}
 use Rattle.std.proofs.lemmas.List.{take_all}
 use Rattle.packed.specs.Strings.{items}
 use Rattle.meaning.specs.Mail.{received}
 use Rattle.meaning.specs.Meaning.{turn}
 use Rattle.rounds.specs.Sight.{added, input_from}
-use Rattle.rounds.specs.Work.{worked_of, places_of}
 use Rattle.crew.specs.Shared.{job_of}
 use Rattle.crew.specs.Worker.{turns_of, view_of_turns}
 use Rattle.workers.proofs.Turning.{view_more}

@@ -1,4 +1,4 @@
-use Rattle.std.proofs.Common.{◌≡◌, [], ◌∷◌, ◌++◌, deque_items, ap, ◌∙◌, append_assoc}
+use Rattle.std.proofs.Common.{[], ◌∷◌, ◌++◌, deque_items, ap, ◌∙◌, append_assoc}
 use Rattle.world.proofs.queue.push_all.Goals as goal
 
 pub loop-parcel-preserved : goal.loop-parcel-preserved

@@ -1,5 +1,4 @@
-use Rattle.std.proofs.Common.{◌≡◌, ℕ, ◌-◌, ◌<◌, ◌≤◌, Bool, true, false, is_some, sym, refl, ap, ◌∙◌, arith}
-use Rattle.crew.specs.Job.{all_below}
+use Rattle.std.proofs.Common.{ℕ, Bool, sym, ◌∙◌, arith}
 use Rattle.crew.specs.Worker.{letters_in}
 use Rattle.meaning.specs.Meaning.{none}
 use Rattle.workers.specs.Holding.{got_of}

@@ -1,4 +1,4 @@
-use Rattle.std.proofs.Common.{◌≡◌, ◌≤◌, is_some}
+use Rattle.std.proofs.Common.{◌≡◌, ◌≤◌}
 use Rattle.crew.specs.Job.{all_below}
 use Rattle.crew.specs.Worker.{letters_in}
 use Rattle.meaning.specs.Meaning.{none}

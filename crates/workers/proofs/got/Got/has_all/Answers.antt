@@ -1,7 +1,4 @@
-use Rattle.std.proofs.Common.{◌≡◌, ℕ, ◌-◌, ◌<◌, ◌≤◌, Bool, true, false, is_some, sym, refl, ap, ◌∙◌, arith}
-use Rattle.crew.specs.Job.{all_below}
-use Rattle.crew.specs.Worker.{letters_in}
-use Rattle.meaning.specs.Meaning.{none}
+use Rattle.std.proofs.Common.{ℕ, Bool, is_some, sym, ◌∙◌, arith}
 use Rattle.workers.specs.Holding.{got_of}
 use Rattle.workers.proofs.Below.{not_here, here}
 use Rattle.workers.proofs.got.Got.has_all.Goals as goal

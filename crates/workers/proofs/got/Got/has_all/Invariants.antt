@@ -1,7 +1,5 @@
 use Rattle.std.proofs.Common.{◌≡◌, ◌≤◌, is_some}
 use Rattle.crew.specs.Job.{all_below}
-use Rattle.crew.specs.Worker.{letters_in}
-use Rattle.meaning.specs.Meaning.{none}
 use Rattle.workers.specs.Holding.{got_of}
 use Rattle.workers.proofs.got.Got.has_all.Given as goal
 

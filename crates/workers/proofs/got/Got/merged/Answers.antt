@@ -1,6 +1,4 @@
-use Rattle.std.proofs.Common.{◌≡◌, ℕ, ◌≤◌, List, length, get_or, None, box_value, Option, sym, ap, ◌∙◌, arith}
-use Rattle.std.specs.Option.{option_map}
-use Rattle.meaning.specs.Packets.{letters_of}
+use Rattle.std.proofs.Common.{◌≤◌, List, length, box_value, Option, ap, ◌∙◌, arith}
 use Rattle.meaning.specs.declared.letters.Letters.{Letters}
 use Rattle.crew.specs.Worker.{merged_below}
 use Rattle.batches.specs.Slots.{held}

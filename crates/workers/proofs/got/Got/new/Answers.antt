@@ -1,4 +1,4 @@
-use Rattle.std.proofs.Common.{◌≡◌, ℕ, List, get_or, None, Option, ap, ◌∙◌}
+use Rattle.std.proofs.Common.{ℕ, List, get_or, None, Option, ap, ◌∙◌}
 use Rattle.std.specs.Option.{option_map}
 use Rattle.meaning.specs.Packets.{letters_of}
 use Rattle.meaning.specs.declared.letters.Letters.{Letters}

@@ -1,4 +1,4 @@
-use Rattle.std.proofs.Common.{◌≡◌, Bool, cond, List, [], ◌∷◌, ◌++◌, vec_items, sym, ap, ◌∙◌}
+use Rattle.std.proofs.Common.{cond, List, [], ◌∷◌, ◌++◌, sym, ap, ◌∙◌}
 use Rattle.crew.specs.Messages.{Hello, Parcel}
 use Rattle.crew.specs.Stored.{parcels_of}
 use Rattle.crew.specs.Worker.{to_foreman, says_batches, says_ready, says_put_by}

@@ -1,11 +1,9 @@
-use Rattle.std.proofs.Common.{◌≡◌, ℕ, ◌-◌, ◌≤◌, Bool, false, List, [], ◌++◌, map, length, take, replicate, None, vec_items, vec_len, sym, refl, ap, ◌∙◌, subst, arith}
+use Rattle.std.proofs.Common.{◌≡◌, ℕ, ◌-◌, false, List, ◌++◌, map, length, take, replicate, None, vec_items, sym, refl, ap, ◌∙◌, subst}
 use borrow.Author.Tests.{clash}
 use Rattle.std.proofs.lemmas.List.{length-map}
 use Rattle.packed.specs.Strings.{items}
 use Rattle.rounds.specs.Sight.{Capped}
-use Rattle.crew.specs.Shared.{job_of}
 use Rattle.workers.specs.Mine.{mine_of}
-use Rattle.workers.specs.Crewed.{worker_of, started_as}
 use Rattle.workers.proofs.Beginning.{firsts_fit, none_rest}
 use Rattle.workers.proofs.worker.Worker.first.Goals as goal
 

@@ -1,4 +1,4 @@
-use Rattle.std.proofs.Common.{◌≡◌, ℕ, ◌+◌, Bool, true, false, cond, List, [], ◌∷◌, vec_items, sym, refl, ap, ◌∙◌}
+use Rattle.std.proofs.Common.{◌≡◌, ◌+◌, true, false, cond, [], ◌∷◌, vec_items, sym, ap, ◌∙◌}
 use Rattle.crew.specs.Journals.{Checkpoint}
 use Rattle.crew.specs.Messages.{PutBy}
 use Rattle.crew.specs.Stored.{parcels_of, records_of}

@@ -1,4 +1,4 @@
-use Rattle.std.proofs.Common.{◌≡◌, ◌&&◌, sym, ap, ◌∙◌}
+use Rattle.std.proofs.Common.{◌&&◌, sym, ap, ◌∙◌}
 use Rattle.batches.specs.Judging.{named}
 use Rattle.crew.specs.Worker.{rising_from}
 use Rattle.meaning.specs.Packets.{letters_of}

@@ -1,4 +1,4 @@
-use Rattle.std.proofs.Common.{◌≡◌, ℕ, Bool, ◌&&◌, is_some, sym, ap, ◌∙◌}
+use Rattle.std.proofs.Common.{ℕ, Bool, ◌&&◌, is_some, sym, ap, ◌∙◌}
 use Rattle.rounds.specs.Work.{worked_of}
 use Rattle.crew.specs.Job.{all_below}
 use Rattle.workers.specs.Crewed.{worked_in}

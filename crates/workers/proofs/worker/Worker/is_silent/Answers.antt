@@ -1,4 +1,4 @@
-use Rattle.std.proofs.Common.{◌≡◌, ℕ, Bool, ◌&&◌, sym, ap, ◌∙◌}
+use Rattle.std.proofs.Common.{ℕ, Bool, ◌&&◌, sym, ap, ◌∙◌}
 use Rattle.meaning.specs.Meaning.{none}
 use Rattle.crew.specs.Job.{all_below}
 use Rattle.crew.specs.Worker.{letters_in}

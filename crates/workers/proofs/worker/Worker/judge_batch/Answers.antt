@@ -1,4 +1,4 @@
-use Rattle.std.proofs.Common.{◌≡◌, ℕ, Bool, true, false, not, ◌&&◌, ltb, sym, refl, ap, ◌∙◌, ltb-true}
+use Rattle.std.proofs.Common.{not, ◌&&◌, ltb, sym, refl, ap, ◌∙◌, ltb-true}
 use Rattle.std.proofs.lemmas.Bool.{and_parts}
 use Rattle.batches.specs.Judging.{named}
 use Rattle.crew.specs.Worker.{rising_from}

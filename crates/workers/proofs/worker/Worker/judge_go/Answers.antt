@@ -1,4 +1,4 @@
-use Rattle.std.proofs.Common.{◌≡◌, ℕ, ◌+◌, Bool, true, false, not, ◌&&◌, eqb, sym, refl, ap, ◌∙◌, eqb-true}
+use Rattle.std.proofs.Common.{◌+◌, not, ◌&&◌, eqb, sym, refl, ap, ◌∙◌, eqb-true}
 use Rattle.std.proofs.lemmas.Bool.{and_parts}
 use Rattle.workers.proofs.Deciding.{stop, skip, never}
 use Rattle.workers.proofs.worker.Worker.judge_go.Goals as goal

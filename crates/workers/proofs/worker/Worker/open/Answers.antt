@@ -1,4 +1,4 @@
-use Rattle.std.proofs.Common.{◌≡◌, cond, List, [], ◌∷◌, vec_items, sym, refl, ap, ◌∙◌, subst}
+use Rattle.std.proofs.Common.{cond, [], ◌∷◌, vec_items, refl, ap, ◌∙◌, subst}
 use Rattle.crew.specs.Journals.{Joined}
 use Rattle.crew.specs.Messages.{Hello}
 use Rattle.crew.specs.Shared.{job_of}

@@ -1,4 +1,4 @@
-use Rattle.std.proofs.Common.{◌≡◌, ℕ, cond, eqb, List, ◌++◌, Some, vec_items, Option, sym, refl, ap, ◌∙◌}
+use Rattle.std.proofs.Common.{◌≡◌, ℕ, cond, eqb, List, ◌++◌, Some, vec_items, Option, refl, ap, ◌∙◌}
 use Rattle.meaning.specs.Meaning.{Letter}
 use Rattle.meaning.specs.Packets.{letters_of}
 use Rattle.crew.specs.Stored.{parcels_of, records_of}

@@ -1,4 +1,4 @@
-use Rattle.std.proofs.Common.{◌≡◌, false, vec_items, sym, ap, ◌∙◌, arith}
+use Rattle.std.proofs.Common.{false, vec_items, sym, ◌∙◌, arith}
 use Rattle.std.proofs.lemmas.List.{get_or_past}
 use Rattle.std.proofs.lemmas.Bool.{le-ltb}
 use Rattle.workers.proofs.worker.Worker.rests.Goals as goal

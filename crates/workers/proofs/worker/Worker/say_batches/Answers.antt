@@ -1,10 +1,8 @@
-use Rattle.std.proofs.Common.{◌≡◌, ℕ, ◌≤◌, Bool, List, [], ◌∷◌, ◌++◌, map, length, vec_items, vec_len, sym, ap, ◌∙◌, arith}
-use Rattle.std.specs.List.{range_with_len}
+use Rattle.std.proofs.Common.{◌≡◌, ◌++◌, length, vec_items, sym, ap, ◌∙◌, arith}
 use Rattle.std.proofs.lemmas.List.FromFn.{length-map-range_with_len}
-use Rattle.std.proofs.lemmas.List.{append-nil, length-map}
+use Rattle.std.proofs.lemmas.List.{length-map}
 use Rattle.batches.specs.Sharing.{part_of, parts_of}
 use Rattle.meaning.specs.Mail.{post_of}
-use Rattle.meaning.specs.Meaning.{Letter}
 use Rattle.meaning.specs.Packets.{letters_of}
 use Rattle.crew.specs.Shared.{owner_of}
 use Rattle.crew.specs.Stored.{parcels_of}

@@ -1,4 +1,4 @@
-use Rattle.std.proofs.Common.{◌≡◌, Bool, cond, List, [], ◌∷◌, ◌++◌, vec_items, sym, ap, ◌∙◌}
+use Rattle.std.proofs.Common.{Bool, cond, [], ◌∷◌, ◌++◌, vec_items, sym, ap, ◌∙◌}
 use Rattle.std.proofs.lemmas.List.{append-nil}
 use Rattle.crew.specs.Messages.{Ready, Parcel}
 use Rattle.crew.specs.Stored.{parcels_of}

@@ -1,4 +1,4 @@
-use Rattle.std.proofs.Common.{◌≡◌, sym, subst}
+use Rattle.std.proofs.Common.{sym, subst}
 use Rattle.meaning.specs.Packets.{letters_of}
 use Rattle.crew.specs.Stored.{message_of, records_of}
 use Rattle.crew.specs.Worker as W

@@ -1,4 +1,4 @@
-use Rattle.std.proofs.Common.{◌≡◌, sym, refl, ap, ◌∙◌, subst}
+use Rattle.std.proofs.Common.{refl, ap, subst}
 use Rattle.crew.specs.Messages.{Anew}
 use Rattle.crew.specs.Stored.{records_of}
 use Rattle.crew.specs.Worker as W

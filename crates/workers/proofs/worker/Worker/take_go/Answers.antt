@@ -1,7 +1,5 @@
-use Rattle.std.proofs.Common.{◌≡◌, ℕ, List, vec_items, sym, refl, ap, ◌∙◌, subst}
-use Rattle.meaning.specs.Meaning.{Program}
-use Rattle.meaning.specs.Packets.{letters_of}
-use Rattle.crew.specs.Messages.{Message, Go}
+use Rattle.std.proofs.Common.{refl, ap, subst}
+use Rattle.crew.specs.Messages.{Go}
 use Rattle.crew.specs.Stored.{parcels_of, records_of}
 use Rattle.crew.specs.Worker as W
 use Rattle.workers.specs.Crewed.{Replied, job_in, worker_of}

@@ -1,4 +1,4 @@
-use Rattle.std.proofs.Common.{◌≡◌, vec_items, refl, ap, ◌∙◌}
+use Rattle.std.proofs.Common.{vec_items, refl, ap, ◌∙◌}
 use Rattle.crew.specs.Stored.{parcels_of, records_of}
 use Rattle.workers.proofs.worker.Worker.tick.Goals as goal
 

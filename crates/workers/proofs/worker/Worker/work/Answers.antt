@@ -1,4 +1,4 @@
-use Rattle.std.proofs.Common.{◌≡◌, cond, ltb, ◌++◌, vec_items, sym, refl, ap, ◌∙◌, subst, arith, lt-ltb}
+use Rattle.std.proofs.Common.{◌≡◌, cond, ltb, ◌++◌, vec_items, sym, ap, ◌∙◌, subst, arith, lt-ltb}
 use Rattle.meaning.specs.Caps.{round_cap}
 use Rattle.crew.specs.Outcomes.{judged, only_full}
 use Rattle.crew.specs.Shared.{job_of}

@@ -1,4 +1,4 @@
-use Rattle.std.proofs.Common.{◌≡◌, Some, vec_items, ap, ◌∙◌}
+use Rattle.std.proofs.Common.{Some, vec_items, ap, ◌∙◌}
 use Rattle.std.proofs.lemmas.List.{map-append}
 use Rattle.crew.specs.Paced.{foreman_of}
 use Rattle.crew.specs.Stored.{note_of, notes_of}

@@ -1,4 +1,4 @@
-use Rattle.std.proofs.Common.{◌≡◌, ℕ, [], vec_items, sym, refl, ap, ◌∙◌, subst}
+use Rattle.std.proofs.Common.{[], vec_items, ap, ◌∙◌, subst}
 use Rattle.crew.specs.Foreman as F
 use Rattle.crew.specs.Paced.{foreman_of}
 use Rattle.crew.specs.Stored.{message_of, notes_of, parcels_of}

@@ -1,7 +1,7 @@
-use Rattle.std.proofs.Common.{◌≡◌, ℕ, vec_items, sym, refl, ap, ◌∙◌, subst}
+use Rattle.std.proofs.Common.{vec_items, refl, ap, ◌∙◌, subst}
 use Rattle.crew.specs.Foreman as F
 use Rattle.crew.specs.Paced.{foreman_of}
-use Rattle.crew.specs.Stored.{message_of, notes_of, parcels_of}
+use Rattle.crew.specs.Stored.{notes_of, parcels_of}
 use Rattle.runs.specs.World.{Tick}
 use Rattle.world.specs.Paced.{Heads, desk_of}
 use Rattle.world.proofs.Pacing.{call_same, desk_led, made_map}

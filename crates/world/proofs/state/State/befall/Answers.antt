@@ -1,4 +1,4 @@
-use Rattle.std.proofs.Common.{◌≡◌, sym, ap, ◌∙◌}
+use Rattle.std.proofs.Common.{sym, ap, ◌∙◌}
 use Rattle.crew.specs.Shared.{job_of}
 use Rattle.world.specs.Events.{happened}
 use Rattle.world.specs.Staged.{crew_of}

@@ -1,4 +1,4 @@
-use Rattle.std.proofs.Common.{◌≡◌, min, length, vec_items, deque_items, sym, refl, ap, ◌∙◌, arith}
+use Rattle.std.proofs.Common.{min, vec_items, deque_items, refl, ap, ◌∙◌}
 use Rattle.world.specs.Paced.{desk_of}
 use Rattle.world.specs.Seated.{seat_at}
 use Rattle.world.proofs.Staging.{late_behind}

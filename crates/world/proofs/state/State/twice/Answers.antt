@@ -1,7 +1,5 @@
-use Rattle.std.proofs.Common.{◌≡◌, List, [], ◌∷◌, ◌++◌, vec_items, deque_items, sym, refl, ap, ◌∙◌}
+use Rattle.std.proofs.Common.{deque_items, ◌∙◌}
 use Rattle.crew.specs.Shared.{job_of}
-use Rattle.world.specs.Paced.{desk_of}
-use Rattle.world.specs.Seated.{seat_at}
 use Rattle.world.proofs.Pacing.{made_map}
 use Rattle.world.proofs.Staging.{doubled_handed}
 use Rattle.world.proofs.state.State.twice.Goals as goal

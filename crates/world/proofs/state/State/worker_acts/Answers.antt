@@ -1,4 +1,4 @@
-use Rattle.std.proofs.Common.{vec_items, deque_items, refl}
+use Rattle.std.proofs.Common.{refl}
 use Rattle.world.specs.Steps.{call_of}
 use Rattle.crew.specs.Shared.{job_of}
 use Rattle.world.proofs.Pacing.{made_map}

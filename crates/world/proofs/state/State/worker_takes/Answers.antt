@@ -1,4 +1,4 @@
-use Rattle.std.proofs.Common.{vec_items, deque_items, refl}
+use Rattle.std.proofs.Common.{refl}
 use Rattle.crew.specs.Stored.{message_of}
 use Rattle.meaning.specs.Packets.{letters_of}
 use Rattle.runs.specs.World.{Take}

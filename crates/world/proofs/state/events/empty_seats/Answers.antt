@@ -1,4 +1,4 @@
-use Rattle.std.proofs.Common.{◌≡◌, vec_items, sym, ap, ◌∙◌, subst, arith}
+use Rattle.std.proofs.Common.{vec_items, sym, ap, ◌∙◌, subst, arith}
 use Rattle.world.specs.Seated.{Numbered, all_down}
 use Rattle.world.proofs.Seating.{down_push, numbered_push}
 use Rattle.world.proofs.state.events.empty_seats.Goals as goal

@@ -1,18 +1,12 @@
 -- Once over it stays so, and it isn't over while anything is left to do.
 use Rattle.std.proofs.Common.{◌≡◌, ℕ, zero, suc, ◌+◌, ◌<◌, ◌≤◌, Bool, true, false, cond, ◌&&◌, List, [], ◌∷◌, ◌++◌, sym, refl, ap, ◌∙◌, subst, ⊎_elim, add-zero, add-suc, arith}
 use Rattle.std.proofs.lemmas.Bool.{and_parts, and_right, cases_eq, true≢false}
-use Rattle.meaning.specs.Meaning.{Letter, Program, World, letters_for, none, input_at, acted, turn_at, sent_below, round, rounds, all_rest, is_over, seen}
-use Rattle.meaning.specs.Laws.{Agree, OnItsOwn, OverStays, NotWhileAwake, NotWhileUnderWay}
-use Rattle.meaning.proofs.Agreeing.{turn_agrees, listed, over_agrees, one_awake}
-
-pub on_its_own : OnItsOwn
-on_its_own n q r a b v s t l = turn_agrees n q r a b v s t l
+use Rattle.meaning.specs.Meaning.{Program, World, letters_for, none, input_at, acted, turn_at, sent_below, round, rounds, all_rest, is_over, seen}
+use Rattle.meaning.specs.Laws.{Agree, OverStays, NotWhileAwake}
+use Rattle.meaning.proofs.Agreeing.{listed, over_agrees, one_awake}
 
 pub not_while_awake : NotWhileAwake
 not_while_awake n v w h e = and_right (none w.post) (all_rest n w.rests) (one_awake n v w.rests h e)
-
-pub not_while_under_way : NotWhileUnderWay
-not_while_under_way n w l ls e = ap (λ (p : List Letter). none p && all_rest n w.rests) e
 
 none_left : {X : Type 0} (xs : List X) → none xs ≡ true → xs ≡ []
 none_left [] e = refl

@@ -4,4 +4,5 @@ pub mod Packets
 pub mod Mail
 pub mod Groups
 pub mod Given
+pub mod Left
 pub mod Laws

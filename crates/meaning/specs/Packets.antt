@@ -1,6 +1,6 @@
 -- Letters as they are stored: heads beside bodies.
 -- Assumes nothing.
-use Rattle.std.specs.Prelude.{ℕ, ◌<◌, List, [], ◌∷◌, length, vec_items, slice_index_or}
+use Rattle.std.specs.Prelude.{ℕ, ◌-◌, ◌<◌, List, [], ◌∷◌, length, vec_items, vec_len, vec_capacity, slice_index_or}
 use Rattle.packed.specs.Strings.{items}
 use Rattle.meaning.specs.Meaning.{Letter}
 use Rattle.meaning.specs.declared.letters.Head.{Head}
@@ -25,6 +25,14 @@ nobody = record { from = record { 0 = 0 }; to = record { 0 = 0 } }
 
 abbrev pub blank : Letter
 blank = letter_of nobody []
+
+-- how many more heads there is room for already
+abbrev pub spare_heads : Letters → ℕ
+spare_heads l = vec_capacity l.heads - vec_len l.heads
+
+-- letter k, as its number finds it
+abbrev pub letter_at : Letters → ℕ → Letter
+letter_at l k = slice_index_or (letters_of l) k blank
 
 -- every head names a place below n
 abbrev pub There : ℕ → List Head → Type 0

@@ -1,25 +1,36 @@
 // The inbox: the letters that were sent in the last round, found by receiver.
-ghost use Rattle.std.specs.Prelude.{◌-◌, ◌<◌, ◌≤◌, length, slice_index};
-ghost use Rattle.meaning.specs.Groups.{Grouped};
-ghost use Rattle.meaning.specs.Packets.{There};
-ghost use Rattle.packed.specs.Cut.{Rises};
+ghost use Rattle.std.specs.Prelude.{◌-◌, ◌<◌, length, All};
+ghost use Rattle.meaning.specs.Groups.{Indexed};
+ghost use Rattle.meaning.specs.Packets.{There, letters_of};
 
+use crate::group::Index;
 use crate::letters::Letters;
 
 mod calls;
+mod impls;
 
-// The letters stand as they were sent; the order names those of place v from starts[v] up to starts[v + 1]. The next
-// round's tables are made in the spare ones.
+// The letters stand as they were sent, and the index finds those of a place. The next round's index is made in the
+// spare one.
 #[derive(Drop)]
 pub struct Inbox {
     letters: Letters,
-    starts: Vec<usize>,
-    order: Vec<u32>,
-    spare_starts: Vec<usize>,
-    spare_order: Vec<u32>,
-    ghost some: { 0 < length starts.items },
-    ghost there: { There (length starts.items - 1) letters.heads.items },
-    ghost rises: { Rises starts.items },
-    ghost within: { slice_index starts.items (length starts.items - 1) ≤ length order.items },
-    ghost grouped: { Grouped letters.heads.items starts.items order.items },
+    index: Index,
+    spare: Index,
+    ghost there: { There (length index.starts.items - 1) letters.heads.items },
+    ghost indexed: { Indexed (length index.starts.items - 1) letters.heads.items index.starts.items index.order.items },
+}
+
+// Goes through one place's letters, by rising senders, those of one sender in the order sent.
+#[derive(Drop)]
+pub struct LettersTo<'a> {
+    letters: &'a Letters,
+    part: &'a [u32],
+    ghost inside: { All (λ k. k < length (letters_of letters.now)) part.now },
+}
+
+// Why letters were not taken over: one goes to a place that isn't there, or memory is wanting.
+#[derive(Clone, Copy, Debug, PartialEq, Eq)]
+pub enum TakeOverError {
+    MissingPlace,
+    OutOfMemory,
 }

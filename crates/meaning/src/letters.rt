@@ -4,8 +4,10 @@ ghost use Rattle.packed.specs.Strings.{items};
 
 use crate::numbers::Place;
 use packed::Strings;
+use std::slice;
 
 mod calls;
+mod impls;
 
 // Who sent a letter, and to whom.
 #[derive(Clone, Copy, Debug, PartialEq, Eq)]
@@ -21,10 +23,18 @@ pub struct Received<'a> {
     pub bytes: &'a [u8],
 }
 
-// Letters in the order in which they were put in.
+// Letters in the order in which they were put in. Their heads stand in one table and their bodies in one pool, since
+// no letter is to have memory of its own.
 #[derive(Drop)]
 pub struct Letters {
     pub(crate) heads: Vec<Head>,
     pub(crate) bodies: Strings,
     ghost even: { length heads.items ≡ length (items bodies) },
+}
+
+// Goes through letters in order, heads and bodies side by side.
+#[derive(Drop)]
+pub struct Iter<'a> {
+    heads: slice::Iter<'a, Head>,
+    bodies: packed::Iter<'a>,
 }

@@ -8,9 +8,11 @@ mod letters;
 mod numbers;
 mod outbox;
 mod plan;
+#[cfg(test)]
+mod tests;
 
-pub use inbox::Inbox;
-pub use letters::{Head, Letters, Received};
+pub use inbox::{Inbox, LettersTo, TakeOverError};
+pub use letters::{Head, Iter, Letters, Received};
 pub use numbers::{Place, Round};
 pub use outbox::{Outbox, Overfull};
 pub use plan::{Done, Given, Plan};

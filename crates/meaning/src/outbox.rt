@@ -1,6 +1,6 @@
 // The outbox: what a plan sends its letters by.
-ghost use Rattle.std.specs.Prelude.{◌-◌, ◌*◌, ◌≤◌, vec_len, vec_capacity};
-ghost use Rattle.meaning.specs.Packets.{There};
+ghost use Rattle.std.specs.Prelude.{◌*◌, ◌≤◌};
+ghost use Rattle.meaning.specs.Packets.{spare_heads, There};
 ghost use Rattle.packed.specs.Strings.{spare, spare_bytes};
 
 use crate::letters::Letters;
@@ -23,7 +23,7 @@ pub struct Outbox {
     from: Place,
     left: usize,
     ghost there: { There places letters.heads.items },
-    ghost room: { left ≤ vec_capacity letters.heads - vec_len letters.heads },
+    ghost room: { left ≤ spare_heads letters },
     ghost cuts: { left ≤ spare letters.bodies },
     ghost bytes: { 64 * left ≤ spare_bytes letters.bodies },
 }

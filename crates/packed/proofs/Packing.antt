@@ -1,9 +1,8 @@
 -- What packed strings are after one more, and where each lies.
-use Rattle.std.proofs.Common.{◌≡◌, ℕ, ◌+◌, ◌-◌, ◌<◌, ◌≤◌, ◌⊎◌, List, [], ◌∷◌, ◌++◌, map, length, get_or, take, drop, sym, ap, ◌∙◌, inl, inr, ⊎_elim, arith, length-append}
+use Rattle.std.proofs.Common.{Bool, true, false, cond, replicate, length-take, ◌≡◌, ℕ, ◌+◌, ◌-◌, ◌<◌, ◌≤◌, List, [], ◌∷◌, ◌++◌, map, length, get_or, take, drop, sym, ap, ◌∙◌, arith, length-append}
 use Rattle.std.specs.List.{between, range_with_len}
-use Rattle.std.proofs.lemmas.List.{get_or_append_left, get_or_push, ext_get_or, take-take}
+use Rattle.std.proofs.lemmas.List.{get_or_append_left, get_or_push, ext_get_or, take-take, take-append-le}
 use Rattle.std.proofs.lemmas.Slice.{between_is}
-use Rattle.std.proofs.lemmas.Bool.{cases_lt}
 use Rattle.std.proofs.lemmas.List.FromFn.{length-map-range_with_len, get_or-map-range_with_len, map-range_with_len_more}
 use Rattle.packed.specs.Cut.{Rises, string_at, strings}
 
@@ -13,33 +12,17 @@ length_strings cuts pool = length-map-range_with_len (string_at cuts pool) 0 (le
 pub get_or_strings : (cuts pool : List ℕ) (k : ℕ) → k < length cuts - 1 → get_or (strings cuts pool) k [] ≡ string_at cuts pool k
 get_or_strings cuts pool k h = get_or-map-range_with_len (string_at cuts pool) 0 (length cuts - 1) k k [] h (omega arith)
 
--- one more cut, no less than the last
-pub rises_push : (cuts : List ℕ) (n e : ℕ) → 0 < length cuts → Rises cuts → get_or cuts (length cuts - 1) 0 ≤ n → n ≤ e → Rises (cuts ++ e ∷ [])
-rises_push cuts n e some up last le i j h lt =
-    ⊎_elim
-    (λ jb. omega (arith, get_or_append_left cuts (e ∷ []) 0 i (omega arith), get_or_append_left cuts (e ∷ []) 0 j jb, up i j h jb))
-    (λ je.
-    ⊎_elim
-    (λ ib. omega (arith, get_or_append_left cuts (e ∷ []) 0 i ib, up i (length cuts - 1) (omega arith) (omega arith), je))
-    (λ ie. omega (arith, ie, je))
-    (top i (omega arith)))
-    (top j lt)
-  where
-    long : length (cuts ++ e ∷ []) ≡ length cuts + 1
-    long = length-append cuts (e ∷ [])
-
-    top : (k : ℕ) → k < length (cuts ++ e ∷ []) → (k < length cuts) ⊎ (get_or (cuts ++ e ∷ []) k 0 ≡ e)
-    top k kt = ⊎_elim inl (λ ka. inr (get_or_push cuts e 0 k (omega (arith, long)))) (cases_lt k (length cuts))
-
-pub last_push : (cuts : List ℕ) (e : ℕ) → get_or (cuts ++ e ∷ []) (length (cuts ++ e ∷ []) - 1) 0 ≡ e
-last_push cuts e = get_or_push cuts e 0 _ (omega (arith, length-append cuts (e ∷ [])))
-
 -- what lies in a front that two lists share lies in both
 pub shared_front : (xs ys : List ℕ) (n i j : ℕ) → take n xs ≡ take n ys → j ≤ n → between i j xs ≡ between i j ys
 shared_front xs ys n i j e h =
     between_is xs i j
     ∙ ap (drop i) (sym (take-take j n xs h) ∙ ap (take j) e ∙ take-take j n ys h)
     ∙ sym (between_is ys i j)
+
+-- a list that is made longer keeps its front
+pub grown_front : (b : Bool) (xs ys : List ℕ) (n w m : ℕ) → ys ≡ cond b (take w xs ++ replicate m 0) xs → n ≤ w → n ≤ length xs → take n ys ≡ take n xs
+grown_front true xs ys n w m e h k = ap (take n) e ∙ take-append-le n (take w xs) (replicate m 0) (omega (arith, length-take w xs)) ∙ take-take n w xs h
+grown_front false xs ys n w m e h k = ap (take n) e
 
 -- strings that lie in a front that two pools share are the same
 pub strings_same : (cuts pool pool' : List ℕ) → Rises cuts → take (get_or cuts (length cuts - 1) 0) pool' ≡ take (get_or cuts (length cuts - 1) 0) pool → strings cuts pool' ≡ strings cuts pool

@@ -1,2 +1,3 @@
 pub mod Cut
 pub mod Strings
+pub mod Left

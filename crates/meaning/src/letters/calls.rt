@@ -1,9 +1,10 @@
 // What is done with packed letters.
-ghost use Rattle.std.specs.Prelude.{◌≡◌, ℕ, ◌+◌, ◌-◌, ◌<◌, ◌≤◌, ◌&&◌, [], ◌∷◌, ◌++◌, length, is_ok, IfOk, if◌then◌else◌, vec_len, vec_capacity, MatchOption, OnOk, nat_le, nat_lt, slice_index_or};
-ghost use Rattle.meaning.specs.Packets.{blank, letter_of, letters_of, received_of};
+ghost use Rattle.std.specs.Prelude.{◌≡◌, ℕ, ◌+◌, ◌<◌, ◌≤◌, ◌&&◌, [], ◌∷◌, ◌++◌, length, is_ok, IfOk, if◌then◌else◌, MatchOption, OnOk, nat_le, nat_lt, slice_index_or};
+ghost use Rattle.meaning.specs.Left.{letters_left};
+ghost use Rattle.meaning.specs.Packets.{blank, letter_of, letters_of, received_of, spare_heads};
 ghost use Rattle.packed.specs.Strings.{spare, spare_bytes, used};
 
-use crate::letters::{Head, Letters, Received};
+use crate::letters::{Head, Iter, Letters, Received};
 use packed::Strings;
 use std::alloc::{AllocError, Global};
 
@@ -28,21 +29,29 @@ impl Letters {
     pub fn get(&self, k: usize) -> Option<Received<'_>>
         ensures { MatchOption result (length (letters_of self.now) ≤ k) (λ x. (k < length (letters_of self.now)) × (received_of x ≡ slice_index_or (letters_of self.now) k blank)) }
     {
-        let Some(bytes) = self.bodies.get(k) else {
-            return None;
-        };
+        let bytes = self.bodies.get(k)?;
         Some(Received {
             head: self.heads[k],
             bytes,
         })
     }
 
+    // The letters, in order.
+    pub fn iter(&self) -> Iter<'_>
+        ensures { letters_left result ≡ letters_of self.now }
+    {
+        Iter {
+            heads: self.heads.iter(),
+            bodies: self.bodies.iter(),
+        }
+    }
+
     // One letter more where there is room for it; false where there is none, and nothing changes.
     pub fn put(&mut self, head: Head, body: &[u8]) -> bool
-        ensures test { result ≡ (nat_lt 0 (vec_capacity self.old.heads - vec_len self.old.heads) && (nat_lt 0 (spare self.old.bodies) && nat_le (length body.now) (spare_bytes self.old.bodies))) }
+        ensures test { result ≡ (nat_lt 0 (spare_heads self.old) && (nat_lt 0 (spare self.old.bodies) && nat_le (length body.now) (spare_bytes self.old.bodies))) }
         ensures heads { self.new.heads.items ≡ (if result then self.old.heads.items ++ head ∷ [] else self.old.heads.items) }
         ensures items { letters_of self.new ≡ (if result then letters_of self.old ++ letter_of head body.now ∷ [] else letters_of self.old) }
-        ensures uses { (vec_capacity self.old.heads - vec_len self.old.heads ≤ vec_capacity self.new.heads - vec_len self.new.heads + 1) × (spare self.old.bodies ≤ spare self.new.bodies + 1) × (spare_bytes self.old.bodies ≤ spare_bytes self.new.bodies + length body.now) }
+        ensures uses { (spare_heads self.old ≤ spare_heads self.new + 1) × (spare self.old.bodies ≤ spare self.new.bodies + 1) × (spare_bytes self.old.bodies ≤ spare_bytes self.new.bodies + length body.now) }
     {
         if self.heads.len() == self.heads.capacity() || !self.bodies.put(body) {
             return false;
@@ -55,7 +64,7 @@ impl Letters {
     pub fn reserve(&mut self, more: usize, bytes: usize) -> Result<(), AllocError>
         ensures heads { self.new.heads.items ≡ self.old.heads.items }
         ensures items { letters_of self.new ≡ letters_of self.old }
-        ensures room { OnOk result ((more ≤ vec_capacity self.new.heads - vec_len self.new.heads) × (more ≤ spare self.new.bodies) × (bytes ≤ spare_bytes self.new.bodies)) }
+        ensures room { OnOk result ((more ≤ spare_heads self.new) × (more ≤ spare self.new.bodies) × (bytes ≤ spare_bytes self.new.bodies)) }
     {
         self.heads.reserve(more)?;
         self.bodies.reserve(more, bytes)
@@ -70,15 +79,6 @@ impl Letters {
             self.put(head, body);
         }
         Ok(())
-    }
-
-    // The same letters, in memory of their own and no larger than they are.
-    pub fn copy(&self, heap: Global) -> Result<Letters, AllocError>
-        ensures { IfOk result (λ l. letters_of l ≡ letters_of self.now) }
-    {
-        let heads = Vec::from_slice(heap, self.heads.as_slice())?;
-        let bodies = self.bodies.copy(heap)?;
-        Ok(Letters { heads, bodies })
     }
 
     // How many bytes of memory the letters' bodies take.

@@ -1,19 +1,19 @@
 // What is done with packed strings.
 ghost use Rattle.std.specs.Prelude.{◌≡◌, ℕ, ◌+◌, ◌-◌, ◌<◌, ◌≤◌, true, cond, ◌&&◌, [], ◌∷◌, ◌++◌, length, take, is_ok, IfOk, if◌then◌else◌, vec_len, MatchOption, OnOk, nat_le, nat_lt, slice_index, slice_index_or};
 ghost use Rattle.std.specs.List.{between};
+ghost use Rattle.packed.specs.Left.{strings_left};
 ghost use Rattle.packed.specs.Strings.{items, used, spare, spare_bytes};
 
-use crate::store::Strings;
+use crate::cuts::part;
+use crate::store::{Iter, Strings};
 use std::alloc::{AllocError, Global};
 
 impl Strings {
     pub fn new(heap: Global) -> Result<Strings, AllocError>
         ensures { IfOk result (λ s. items s ≡ []) }
     {
-        let mut cuts = Vec::new(heap);
-        cuts.push(0)?;
         Ok(Strings {
-            cuts,
+            cuts: vec![in heap; 0]?,
             pool: Vec::new(heap),
         })
     }
@@ -33,6 +33,16 @@ impl Strings {
             return None;
         }
         Some(part(self.cuts.as_slice(), self.pool.as_slice(), k))
+    }
+
+    // The strings, in order.
+    pub fn iter(&self) -> Iter<'_>
+        ensures { strings_left result ≡ items self.now }
+    {
+        Iter {
+            strings: self,
+            next: 0,
+        }
     }
 
     // One string more. Want of memory changes nothing, and where room was made for it there is none.
@@ -86,7 +96,7 @@ impl Strings {
     }
 
     // How much of the pool the strings take.
-    fn used(&self) -> usize
+    pub(crate) fn used(&self) -> usize
         ensures value { result ≡ used self.now }
         ensures within { result ≤ vec_len self.now.pool }
     {
@@ -106,23 +116,8 @@ impl Strings {
         if bytes <= size - used {
             return Ok(());
         }
-        let Some(need) = used.checked_add(bytes) else {
-            return Err(AllocError);
-        };
-        let wanted = need.max(size.saturating_add(size / 2));
-        let mut pool = vec![in *self.pool.allocator(); 0u8; wanted]?;
-        copy_front(pool.as_mut_slice(), self.pool.as_slice(), used);
-        self.pool = pool;
-        Ok(())
-    }
-
-    // The same strings, in memory of their own and no larger than they are.
-    pub fn copy(&self, heap: Global) -> Result<Strings, AllocError>
-        ensures { IfOk result (λ s. items s ≡ items self.now) }
-    {
-        let cuts = Vec::from_slice(heap, self.cuts.as_slice())?;
-        let pool = front(heap, self.pool.as_slice(), self.used())?;
-        Ok(Strings { cuts, pool })
+        let need = used.checked_add(bytes).ok_or(AllocError)?;
+        self.pool.resize(need.max(size.saturating_add(size / 2)), 0)
     }
 
     // How many bytes of memory the strings take.
@@ -142,17 +137,8 @@ impl Strings {
     }
 }
 
-// The part of the pool between the cuts k and k + 1.
-fn part<'a>(cuts: &[usize], pool: &'a [u8], k: usize) -> &'a [u8]
-    requires there { k + 1 < length cuts.now }
-    requires order { slice_index cuts.now k ≤ slice_index cuts.now (k + 1) }
-    requires within { slice_index cuts.now (k + 1) ≤ length pool.now }
-    ensures { result.now ≡ between (slice_index cuts.now k) (slice_index cuts.now (k + 1)) pool.now }
-{
-    &pool[cuts[k]..cuts[k + 1]]
-}
-
-// A string into its part of the pool.
+// A string into its part of the pool. A new state is written into one slice from an old one in another: so the pool is as
+// long as its room. (A `Vec` that grows with what is put in took 0.9 of the time.)
 fn write(pool: &mut [u8], start: usize, end: usize, s: &[u8])
     requires long { start + length s.now ≡ end }
     requires within { end ≤ length pool.old }
@@ -160,22 +146,4 @@ fn write(pool: &mut [u8], start: usize, end: usize, s: &[u8])
     ensures here { between start end pool.new ≡ s.now }
 {
     pool[start..end].copy_from_slice(s);
-}
-
-// The front of one pool into the front of another.
-fn copy_front(new: &mut [u8], old: &[u8], used: usize)
-    requires old { used ≤ length old.now }
-    requires new { used ≤ length new.old }
-    ensures { take used new.new ≡ take used old.now }
-{
-    new[0..used].copy_from_slice(&old[0..used]);
-}
-
-// The front of a pool, by itself.
-fn front(heap: Global, pool: &[u8], used: usize) -> Result<Vec<u8>, AllocError>
-    requires { used ≤ length pool.now }
-    ensures items { IfOk result (λ v. v.items ≡ take used pool.now) }
-    ensures len { IfOk result (λ v. vec_len v ≡ used) }
-{
-    Vec::from_slice(heap, &pool[0..used])
 }

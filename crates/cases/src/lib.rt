@@ -3,6 +3,7 @@
 
 ghost use Rattle.cases.specs.Table.{EveryRowHolds};
 
+#[tactic(auto, unfolding(meaning::specs::Meaning::rounds))]
 pub fn every_row_holds()
     ensures { EveryRowHolds }
 {}

@@ -1,13 +1,11 @@
 -- Sums and numbers whose high bits are lost on the way.
-use Rattle.std.proofs.Common.{◌≡◌, ℕ, ◌+◌, ◌*◌, ◌/◌, ◌%◌, ◌^◌, ◌<◌, List, [], ◌∷◌, map, length, get_or, take, refl, ap, ◌∙◌, arith}
+use Rattle.std.proofs.Common.{◌≡◌, ℕ, ◌+◌, ◌*◌, ◌/◌, ◌%◌, ◌^◌, List, [], ◌∷◌, fold, map, length, get_or, refl, ap, ◌∙◌, arith}
 use lib.Pow.{mod-mod-pow}
 use Rattle.std.specs.List.{range_with_len}
 use Rattle.std.proofs.lemmas.Nat.{field_of}
 use Rattle.std.proofs.lemmas.List.FromFn.{fill_by_all}
-use Rattle.std.proofs.lemmas.List.Sums.{fold_more, sum_by_more}
-use Rattle.meaning.specs.Meaning.{Letter}
-use Rattle.meaning.specs.Packets.{blank}
-use Rattle.plans.specs.Numbers.{be2, be4, be8, number_of, total_of}
+use Rattle.std.proofs.lemmas.List.Folds.{fold_along}
+use Rattle.plans.specs.Numbers.{be2, be4, be8, number_of}
 
 -- a byte that a number cut to j + 8 + k bits still has
 byte_low : (n j k : ℕ) → n % 2 ^ (j + 8 + k) / 2 ^ k % 2 ^ 8 ≡ n / 2 ^ k % 2 ^ 8
@@ -29,13 +27,6 @@ be8_low n i =
 pub number_listed : (bs : List ℕ) (n : ℕ) → length bs ≡ n → number_of bs ≡ number_of (map (λ k. get_or bs k 0) (range_with_len 0 n))
 number_listed bs n long = ap number_of (fill_by_all (λ k. get_or bs k 0) bs n 0 long (λ k h. refl))
 
--- one byte more
-pub number_more : (bs : List ℕ) (i n : ℕ) → i < length bs → n ≡ number_of (take i bs) % 2 ^ 64 →
-    (n * 256 % 2 ^ 64 + get_or bs i 0) % 2 ^ 64 ≡ number_of (take (i + 1) bs) % 2 ^ 64
-number_more bs i n h e = omega (arith, fold_more (λ a b. a * 256 + b) 0 bs i 0 h)
-
--- one letter more
-pub total_more : (ls : List Letter) (k sum n : ℕ) → k < length ls → sum ≡ total_of (take k ls) % 2 ^ 64 →
-    n ≡ number_of (get_or ls k blank).bytes % 2 ^ 64 →
-    (sum + n) % 2 ^ 64 ≡ total_of (take (k + 1) ls) % 2 ^ 64
-total_more ls k sum n h e f = omega (arith, sum_by_more (λ (l : Letter). number_of l.bytes) ls k blank h)
+-- byte by byte, with the high bits lost at each
+pub number_low : (bs : List ℕ) → fold (λ n b. (n * 256 % 2 ^ 64 + b) % 2 ^ 64) 0 bs ≡ number_of bs % 2 ^ 64
+number_low bs = fold_along (λ n b. (n * 256 % 2 ^ 64 + b) % 2 ^ 64) (λ n b. n * 256 + b) (λ n m. n ≡ m % 2 ^ 64) (λ n m b e. omega arith) 0 0 bs (omega arith)

@@ -19,23 +19,16 @@ pub(crate) fn number(bytes: &[u8]) -> u64
 fn byte_by_byte(bytes: &[u8]) -> u64
     ensures { result ≡ number_of bytes.now % 2 ^ 64 }
 {
-    let mut n = 0u64;
-    for b in bytes {
-        n = n.wrapping_mul(256).wrapping_add(*b as u64);
-    }
-    n
+    bytes
+        .iter()
+        .fold(0, |n: u64, b| n.wrapping_mul(256).wrapping_add(*b as u64))
 }
 
 // The numbers in all letters that came, added up: the low 64 bits.
 pub(crate) fn total(given: &Given<'_>) -> u64
     ensures { result ≡ total_of (letters_at given.now) % 2 ^ 64 }
 {
-    let mut sum = 0u64;
-    for k in 0..given.letters() {
-        let Some(letter) = given.letter(k) else { break };
-        sum = sum.wrapping_add(number(letter.bytes));
-    }
-    sum
+    given.iter().fold(0, |sum: u64, letter| sum.wrapping_add(number(letter.bytes)))
 }
 
 pub(crate) fn low_half(n: u64) -> u32

@@ -15,11 +15,9 @@ const PRIME: u64 = 0x100000001b3;
 pub(crate) fn fnv(start: u64, bytes: &[u8]) -> u64
     ensures { result ≡ hashed start bytes.now }
 {
-    let mut h = start;
-    for b in bytes {
-        h = (h ^ *b as u64).wrapping_mul(PRIME);
-    }
-    h
+    bytes
+        .iter()
+        .fold(start, |h, b| (h ^ *b as u64).wrapping_mul(PRIME))
 }
 
 pub(crate) fn digest(given: &Given<'_>, state: &[u8]) -> u64
@@ -36,12 +34,7 @@ pub(crate) fn digest(given: &Given<'_>, state: &[u8]) -> u64
 fn fnv_letters(start: u64, given: &Given<'_>) -> u64
     ensures { result ≡ hashed start (flat_map spelled (letters_at given.now)) }
 {
-    let mut h = start;
-    for k in 0..given.letters() {
-        let Some(letter) = given.letter(k) else { break };
-        h = fnv_letter(h, letter);
-    }
-    h
+    given.iter().fold(start, fnv_letter)
 }
 
 fn fnv_letter(start: u64, letter: Received<'_>) -> u64

@@ -17,6 +17,8 @@ fn fill(buffer: &mut [u8], word: u64)
     ensures { buffer.new ≡ repeated word (length buffer.old) }
 {
     let bytes = word.to_be_bytes();
+    // By number: of what is written through `chunks_exact_mut` a proof knows no more than the length, and written a
+    // byte at a time the bytes take the plan scramble 1.35 of the time.
     for i in 0..buffer.len() / 8 {
         buffer[i * 8..i * 8 + 8].copy_from_slice(&bytes);
     }

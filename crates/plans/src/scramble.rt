@@ -12,6 +12,14 @@ use crate::filling::again;
 use crate::sending::send;
 use meaning::{Done, Given, Outbox, Place, Plan};
 
+// What a place draws its rest, its state's length and the count of its letters under; each letter is drawn under its own
+// number.
+const REST: u8 = 252;
+
+const LENGTH: u8 = 253;
+
+const LETTERS: u8 = 254;
+
 // Of so many places. Letters are sent in the rounds before the last.
 #[derive(Clone, Copy)]
 pub struct Scramble {
@@ -44,16 +52,17 @@ impl Plan for Scramble {
                 rests: true,
             };
         }
-        send_letters(out, self.places, h, letters_to_send(draw(h, 254)));
-        let count = (draw(h, 253) >> 32) % 257;
+        send_letters(out, self.places, h, letters_to_send(draw(h, LETTERS)));
+        let count = (draw(h, LENGTH) >> 32) % 257;
         Done {
             state: again(fresh, h, count as usize),
-            rests: (draw(h, 252) >> 32) % 4 != 0,
+            rests: (draw(h, REST) >> 32) % 4 != 0,
         }
     }
 }
 
 // A word from a digest, another one for each number.
+#[tactic(auto, unfolding(crate::specs::Scramble::drawn))]
 fn draw(h: u64, j: u8) -> u64
     ensures { result ≡ drawn h j }
 {

@@ -11,7 +11,7 @@ pub(crate) fn send(out: &mut Outbox, to: u32, body: &[u8])
     requires short { length body.now ≤ 64 }
     ensures { post_of out.new ≡ mailed (post_of out.old) (one_to to body.now) }
 {
-    let _ = out.send(Place(to), body);
+    out.send(Place(to), body).unwrap();
 }
 
 // The same letter to each of these that there is.

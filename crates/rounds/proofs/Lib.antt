@@ -1,2 +1,3 @@
+pub mod Yielding
 pub mod Turns
-pub mod Standing
+pub mod Running

@@ -6,11 +6,11 @@ use Rattle.meaning.specs.Caps.{place_cap, round_cap}
 use Rattle.meaning.specs.Mail.{received}
 use Rattle.meaning.specs.Meaning.{Program, View, rounds, seen}
 use Rattle.rounds.specs.declared.alone.Alone.{Alone}
-use Rattle.rounds.specs.declared.alone.Fault.{Fault}
-use Rattle.rounds.specs.declared.alone.Fault.TheVariants.{Places, Rounds, Memory}
+use Rattle.rounds.specs.declared.fault.Fault.{Fault}
+use Rattle.rounds.specs.declared.fault.Fault.TheVariants.{Places, Rounds, Memory}
 
 abbrev pub view_of : Alone → View
-view_of a = record { states = items a.states; rests = vec_items a.rests; post = received a.inbox }
+view_of a = record { states = items a.standing.states; rests = vec_items a.standing.rests; post = received a.inbox }
 
 -- what the machine has is what the meaning says of its round
 pub record Stands (n : ℕ) (q : Program) (a : Alone) : Type 0 where

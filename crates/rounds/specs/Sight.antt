@@ -1,9 +1,8 @@
 -- A view taken for a world, and a view with one place more.
 -- Assumes nothing.
-use Rattle.std.specs.Prelude.{ℕ, ◌≤◌, false, List, [], ◌∷◌, ◌++◌, map, length, slice_index_or}
-use Rattle.std.specs.List.{range_with_len}
+use Rattle.std.specs.Prelude.{ℕ, ◌≤◌, false, List, [], ◌∷◌, ◌++◌, length, slice_index_or}
 use Rattle.meaning.specs.Caps.{state_cap}
-use Rattle.meaning.specs.Meaning.{Program, Letter, Input, letters_for, Turn, World, View, turn_at, sent_below}
+use Rattle.meaning.specs.Meaning.{Letter, Input, letters_for, Turn, World, View}
 
 -- places past the end have an empty state and do not rest
 abbrev pub world_of : View → World
@@ -14,10 +13,6 @@ blank_view = record { states = []; rests = []; post = [] }
 
 abbrev pub added : View → Turn → View
 added s t = record { states = s.states ++ t.state ∷ []; rests = s.rests ++ t.rests ∷ []; post = s.post ++ t.sent }
-
--- what the places below c came to
-abbrev pub turns_below : (n : ℕ) → Program → (r : ℕ) → World → (c : ℕ) → View
-turns_below n q r w c = record { states = map (λ v. (turn_at n q r w v).state) (range_with_len 0 c); rests = map (λ v. (turn_at n q r w v).rests) (range_with_len 0 c); post = sent_below n q r w c }
 
 -- what a place is given, out of all letters
 abbrev pub input_from : (r v : ℕ) → List ℕ → List Letter → Input

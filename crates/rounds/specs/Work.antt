@@ -7,7 +7,7 @@ use Rattle.meaning.specs.Meaning.{View}
 use Rattle.rounds.specs.declared.worked.Worked.{Worked}
 
 abbrev pub worked_of : Worked → View
-worked_of w = record { states = items w.states; rests = vec_items w.rests; post = (post_of w.out).letters }
+worked_of w = record { states = items w.standing.states; rests = vec_items w.standing.rests; post = (post_of w.out).letters }
 
 abbrev pub places_of : Worked → ℕ
 places_of w = (post_of w.out).places

@@ -2,7 +2,13 @@
 #![tactic(auto)]
 
 mod alone;
+mod fault;
+mod standing;
+#[cfg(test)]
+mod tests;
 mod worked;
 
-pub use alone::{Alone, Fault, Watch, run};
+pub use alone::{Alone, Watch, run};
+pub use fault::Fault;
+pub use standing::{Held, Iter, Standing};
 pub use worked::Worked;

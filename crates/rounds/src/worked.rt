@@ -1,13 +1,13 @@
 // What places came to in a round, in memory beside what they were.
+use crate::standing::Standing;
 use meaning::Outbox;
-use packed::Strings;
 
 mod calls;
 
-// The new states and rests of the places so far, by rising number, and what they sent.
+// What the places so far have after the round, what they sent, and the memory that a plan is lent for a new state.
 #[derive(Drop)]
 pub struct Worked {
-    pub states: Strings,
-    pub rests: Vec<bool>,
+    pub standing: Standing,
     pub out: Outbox,
+    room: [u8; 256],
 }

@@ -1,15 +1,17 @@
 // How a round is worked.
-ghost use Rattle.std.specs.Prelude.{◌≡◌, ℕ, ◌^◌, ◌<◌, ◌≤◌, true, [], length, IfOk, OnOk};
-ghost use Rattle.meaning.specs.Caps.{state_cap};
+ghost use Rattle.std.specs.Prelude.{◌≡◌, ℕ, ◌<◌, ◌≤◌, true, List, [], length, IfOk, OnOk};
+ghost use Rattle.meaning.specs.Given.{input_of};
 ghost use Rattle.meaning.specs.Mail.{received};
 ghost use Rattle.meaning.specs.Meaning.{acted, turn};
 ghost use Rattle.packed.specs.Strings.{items};
-ghost use Rattle.rounds.specs.Sight.{world_of, blank_view, added, input_from, turns_below, Capped};
+ghost use Rattle.rounds.specs.Sight.{blank_view, added};
+ghost use Rattle.rounds.specs.Turns.{turns_of, view_of_turns};
 ghost use Rattle.rounds.specs.Work.{worked_of, places_of};
+ghost use Rattle.rounds.specs.Yielding.{YieldsPlaces};
 
+use crate::standing::{Held, Standing};
 use crate::worked::Worked;
 use meaning::{Given, Inbox, Outbox, Place, Plan, Round};
-use packed::Strings;
 use std::alloc::{AllocError, Global};
 
 impl Worked {
@@ -17,12 +19,10 @@ impl Worked {
     pub fn new(heap: Global, places: u32) -> Result<Worked, AllocError>
         ensures { IfOk result (λ w. (worked_of w ≡ blank_view) × (places_of w ≡ places)) }
     {
-        let states = Strings::new(heap)?;
-        let out = Outbox::new(heap, places)?;
         Ok(Worked {
-            states,
-            rests: Vec::new(heap),
-            out,
+            standing: Standing::new(heap)?,
+            out: Outbox::new(heap, places)?,
+            room: [0; 256],
         })
     }
 
@@ -30,104 +30,65 @@ impl Worked {
     pub fn clear(&mut self)
         ensures { (worked_of self.new ≡ blank_view) × (places_of self.new ≡ places_of self.old) }
     {
-        self.states.clear();
-        self.rests.clear();
+        self.standing.clear();
         self.out.clear();
     }
 
-    // The next place's turn. Who rests and got no letter keeps its state and does nothing.
-    pub fn turn<'a, P: Plan>(
+    // The round of these places, of which one after the other has what is standing. What was worked before is gone; its
+    // memory stays.
+    pub fn work<P: Plan, I: Iterator<Item = Place> + Drop>(
         &mut self,
         plan: &P,
         round: Round,
-        place: Place,
-        state: &'a [u8],
-        rested: bool,
-        inbox: &'a Inbox,
-        room: &'a mut [u8],
+        places: I,
+        standing: &Standing,
+        inbox: &Inbox,
     ) -> Result<(), AllocError>
-        requires room { length room.old ≡ state_cap }
-        requires fits { length state.now ≤ state_cap }
-        ensures added { OnOk result (worked_of self.new ≡ added (worked_of self.old) (turn (places_of self.old) (P.Plan.program plan.now) (input_from round.0 place.0 state.now (received inbox.now)) rested)) }
+        requires { I.can_next places }
+        ensures worked { OnOk result ((vs : List ℕ) → YieldsPlaces I.next_gives places vs → worked_of self.new ≡ view_of_turns (turns_of (places_of self.old) (P.Plan.program plan.now) round.0 (received inbox.now) vs (items standing.now.states) standing.now.rests.items)) }
         ensures places { places_of self.new ≡ places_of self.old }
     {
-        if rested && inbox.count(place) == 0 {
-            self.keep(state)
-        } else {
-            self.act(plan, round, place, state, inbox, room)
+        self.clear();
+        for (place, held) in places.zip(standing.iter()) {
+            let given = Given {
+                round,
+                place,
+                inbox,
+            };
+            self.turn(plan, given, held)?;
         }
+        Ok(())
     }
 
-    // An idle place.
-    fn keep(&mut self, state: &[u8]) -> Result<(), AllocError>
-        ensures added { OnOk result (worked_of self.new ≡ added (worked_of self.old) (record { state = state.entry.now; rests = true; sent = [] })) }
+    // The next place's turn. Who rests and got no letter keeps its state and does nothing.
+    pub fn turn<P: Plan>(
+        &mut self,
+        plan: &P,
+        given: Given<'_>,
+        held: Held<'_>,
+    ) -> Result<(), AllocError>
+        ensures added { OnOk result (worked_of self.new ≡ added (worked_of self.old) (turn (places_of self.old) (P.Plan.program plan.now) (input_of given.entry held.entry.state.now) held.entry.rests)) }
         ensures places { places_of self.new ≡ places_of self.old }
     {
-        self.states.push(state)?;
-        self.rests.push(true)?;
-        Ok(())
+        if held.rests && given.inbox.count(given.place) == 0 {
+            self.standing.push(held)
+        } else {
+            self.act(plan, given, held)
+        }
     }
 
     // A place that does what its plan says.
-    fn act<'a, P: Plan>(
-        &mut self,
-        plan: &P,
-        round: Round,
-        place: Place,
-        state: &'a [u8],
-        inbox: &'a Inbox,
-        room: &'a mut [u8],
-    ) -> Result<(), AllocError>
-        requires room { length room.old ≡ state_cap }
-        requires fits { length state.now ≤ state_cap }
-        ensures added { OnOk result (worked_of self.new ≡ added (worked_of self.old) (acted (places_of self.old) (P.Plan.program plan.now) (input_from round.0 place.0 state.now (received inbox.now)))) }
+    fn act<P: Plan>(&mut self, plan: &P, given: Given<'_>, held: Held<'_>) -> Result<(), AllocError>
+        ensures added { OnOk result (worked_of self.new ≡ added (worked_of self.old) (acted (places_of self.old) (P.Plan.program plan.now) (input_of given.entry held.entry.state.now))) }
         ensures places { places_of self.new ≡ places_of self.old }
     {
-        self.out.begin(place)?;
-        room[0] = inbox.touch(place);
-        let given = Given {
-            round,
-            place,
-            inbox,
-        };
-        let done = plan.act(given, state, room, &mut self.out);
-        self.states.push(done.state)?;
-        self.rests.push(done.rests)?;
-        Ok(())
-    }
-
-    // The next round of all places, each in its part of the lent memory.
-    pub(crate) fn work<P: Plan>(
-        &mut self,
-        plan: &P,
-        round: Round,
-        states: &Strings,
-        rests: &[bool],
-        inbox: &Inbox,
-        room: &mut [u8],
-    ) -> Result<(), AllocError>
-        requires room { state_cap ≤ length room.old }
-        requires few { length rests.now < 2 ^ 32 }
-        requires all { length (items states.now) ≡ length rests.now }
-        requires fits { Capped (items states.now) }
-        requires blank { worked_of self.old ≡ blank_view }
-        ensures worked { OnOk result (worked_of self.new ≡ turns_below (places_of self.old) (P.Plan.program plan.now) round.0 (world_of (record { states = items states.entry.now; rests = rests.now; post = received inbox.now })) (length rests.now)) }
-        ensures places { places_of self.new ≡ places_of self.old }
-    {
-        for v in 0..rests.len() {
-            let Some(state) = states.get(v) else {
-                return Err(AllocError);
-            };
-            self.turn(
-                plan,
-                round,
-                Place(v as u32),
-                state,
-                rests[v],
-                inbox,
-                &mut room[0..256],
-            )?;
-        }
-        Ok(())
+        self.out.begin(given.place)?;
+        self.room[0] = given.inbox.touch(given.place);
+        // The place's part of the lent memory is handed on for the plan to write its new state into.
+        let done = plan.act(given, held.state, &mut self.room[0..256], &mut self.out);
+        self.standing.push(Held {
+            state: done.state,
+            rests: done.rests,
+        })
     }
 }

@@ -2,11 +2,6 @@ use Rattle.std.proofs.Common.{◌≡◌, length, arith, rules}
 use Rattle.plans.proofs.Adding.{number_listed}
 use Rattle.plans.proofs.bytes.number.Goals as goal
 
-pub returns-in-len4 : goal.returns-in-len4
-returns-in-len4 c =
-    let long : length c.args.bytes.now ≡ 4 = search rules in
-    omega (arith, c.from_be_bytes.ensures, c.from_be_bytes.type_inv, number_listed c.args.bytes.now 4 long)
-
 pub returns-in-len8 : goal.returns-in-len8
 returns-in-len8 c =
     let long : length c.args.bytes.now ≡ 8 = search rules in

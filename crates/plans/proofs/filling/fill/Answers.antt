@@ -1,8 +1,6 @@
-use Rattle.std.proofs.Common.{◌≡◌, ◌+◌, ◌*◌, ◌++◌, length, sym, ap, ◌∙◌, arith}
-use Rattle.std.proofs.lemmas.List.{take_all}
+use Rattle.std.proofs.Common.{◌≡◌, ◌+◌, ◌*◌, ◌++◌, length, ap, ◌∙◌, arith}
 use Rattle.std.proofs.lemmas.Slice.{take-put_mid}
 use Rattle.plans.specs.Numbers.{be8}
-use Rattle.plans.specs.Scramble.{repeated}
 use Rattle.plans.specs.Repeating.{repeated_more}
 use Rattle.plans.proofs.filling.fill.Goals as goal
 
@@ -15,10 +13,3 @@ loop-i-preserved c =
     take-put_mid (i * 8) _ c.loop-i.buffer part ((i + 1) * 8) (omega (arith, ap length bytes)) (omega arith)
     ∙ (λ t. c.loop-i.invariant t ++ bytes t)
     ∙ repeated_more word i
-
-pub returns : goal.returns
-returns c =
-    let i = c.loop-i.i in
-    let n = length c.args.buffer.now in
-    let whole : i * 8 ≡ n = omega (arith, c.requires) in
-    sym (take_all (i * 8) c.loop-i.buffer (omega arith)) ∙ c.loop-i.invariant ∙ ap (repeated c.args.word) whole

@@ -1,4 +1,4 @@
-use Rattle.std.proofs.Common.{◌≡◌, ℕ, ◌+◌, [], ◌∷◌, sym, ap, ◌∙◌, arith}
+use Rattle.std.proofs.Common.{ℕ, ◌+◌, [], ◌∷◌, sym, ap, ◌∙◌, arith}
 use Rattle.std.proofs.lemmas.List.FromFn.{length-map-range_with_len, map-range_with_len_more}
 use Rattle.meaning.specs.Mail.{Post, post_of, mailed}
 use Rattle.meaning.specs.Meaning.{Sent}
@@ -22,8 +22,3 @@ loop-j-preserved c =
     c.loop-j.invariant
     (c.send_letter.ensures ∙ ap (λ word. mailed (post_of c.loop-j.out) (letter_from n word ∷ [])) c.draw.ensures)
     (sym (map-range_with_len_more letter 0 j j (omega arith)))
-
-pub returns : goal.returns
-returns c =
-    let all : c.loop-j.j ≡ c.args.count = omega arith in
-    c.loop-j.invariant ∙ ap (λ k. mailed (post_of c.args.out.now) (letters_from c.args.places c.args.h k)) all

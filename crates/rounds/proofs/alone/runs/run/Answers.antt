@@ -3,9 +3,9 @@ use Rattle.meaning.specs.Meaning.{Program, round, rounds, is_over, ends_from, se
 use Rattle.rounds.specs.Sight.{world_of}
 use Rattle.rounds.specs.Run.{view_of, Stands}
 use Rattle.rounds.specs.declared.alone.Alone.{Alone}
-use Rattle.rounds.proofs.Standing.{steps, over_is, ends_here, ends_later, ends_now}
+use Rattle.rounds.proofs.Running.{steps, over_is, ends_here, ends_later, ends_now}
 use Rattle.rounds.proofs.alone.runs.run.Goals as goal
-use Rattle.rounds.proofs.alone.runs.run.Goals.{else-loop-i-test, then-loop-i-test+then-is_over}
+use Rattle.rounds.proofs.alone.runs.run.Goals.{else-loop-test, then-loop-test+then-is_over}
 
 -- whether the machine is over is whether its round is
 over_at : (n : ℕ) (q : Program) (a : Alone) → Stands n q a → is_over a.places (world_of (view_of a)) ≡ is_over n (rounds n q a.round.0)
@@ -18,33 +18,33 @@ stands_on n q a b s places rounds-are view = record {
   view = view ∙ ap (λ k. seen k (round k q a.round.0 (world_of (view_of a)))) s.places ∙ steps n q a.round.0 (view_of a) s.view ∙ ap (λ k. seen n (rounds n q k)) (sym (rounds-are ∙ add-one a.round.0));
 }
 
-pub loop-i-preserved : goal.loop-i-preserved
-loop-i-preserved g c =
+pub loop-preserved : goal.loop-preserved
+loop-preserved g c =
     let n = c.args.places in
     let q = g.P.Plan.program c.args.plan.now in
-    let a = c.loop-i.all in
-    let s = c.loop-i.invariant.1 in
+    let a = c.loop.all in
+    let s = c.loop.invariant.1 in
     let more = c.in_ok-step.ensures in
-    let left : 0 < c.args.budget.0 - c.loop-i.i = omega arith in (
-      c.loop-i.invariant.0,
+    let left : 0 < c.args.budget.0 - c.loop.counter = omega arith in (
+      c.loop.invariant.0,
       stands_on n q a c.step.new.self s more.places more.round more.leads,
-      (λ i. ends_from n q (more.round i) ((let z : c.args.budget.0 - (c.loop-i.i + 1) ≡ c.args.budget.0 - c.loop-i.i - 1 = omega arith in z) i))
-          ∙ sym (ends_later n q a.round.0 (c.args.budget.0 - c.loop-i.i) left (sym (c.is_over.ensures ∙ over_at n q a s) ∙ c.if-is_over.false))
-          ∙ c.loop-i.invariant.2,
-      omega (arith, more.round, c.loop-i.invariant.3),
+      (λ i. ends_from n q (more.round i) ((let z : c.args.budget.0 - (c.loop.counter + 1) ≡ c.args.budget.0 - c.loop.counter - 1 = omega arith in z) i))
+          ∙ sym (ends_later n q a.round.0 (c.args.budget.0 - c.loop.counter) left (sym (c.is_over.ensures ∙ over_at n q a s) ∙ c.if-is_over.false))
+          ∙ c.loop.invariant.2,
+      omega (arith, more.round, c.loop.invariant.3),
     )
 
 pub returns : goal.returns
 returns g c =
     let n = c.args.places in
     let q = g.P.Plan.program c.args.plan.now in
-    let a = c.loop-i.all in
-    let s = c.loop-i.invariant.1 in
-    let left : ℕ = c.args.budget.0 - c.loop-i.i in (
-      c.loop-i.invariant.0,
+    let a = c.loop.all in
+    let s = c.loop.invariant.1 in
+    let left : ℕ = c.args.budget.0 - c.loop.counter in (
+      c.loop.invariant.0,
       s,
-      elim c.loop-i-test.branch [
-        | else-loop-i-test w ↦ sym (ends_now n q a.round.0 left (omega (arith, w.loop-i-test.false))) ∙ c.loop-i.invariant.2
-        | then-loop-i-test+then-is_over w ↦ sym (ends_here n q a.round.0 left (omega (arith, w.loop-i-test.true)) (sym (w.is_over.ensures ∙ over_at n q a s) ∙ w.if-is_over.true)) ∙ c.loop-i.invariant.2
+      elim c.loop-test.branch [
+        | else-loop-test w ↦ sym (ends_now n q a.round.0 left (omega (arith, w.loop-test.false))) ∙ c.loop.invariant.2
+        | then-loop-test+then-is_over w ↦ sym (ends_here n q a.round.0 left (omega (arith, w.loop-test.true)) (sym (w.is_over.ensures ∙ over_at n q a s) ∙ w.if-is_over.true)) ∙ c.loop.invariant.2
       ],
     )

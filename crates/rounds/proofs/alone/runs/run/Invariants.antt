@@ -4,5 +4,5 @@ use Rattle.meaning.specs.Meaning.{ends_from}
 use Rattle.rounds.specs.Run.{Stands}
 use Rattle.rounds.proofs.alone.runs.run.Given as goal
 
-abbrev pub invariant-loop-i : goal.invariant-loop-i
-invariant-loop-i g l = (l.places ≤ place_cap) × Stands l.places (g.P.Plan.program l.plan) l.all × (ends_from l.places (g.P.Plan.program l.plan) l.all.round.0 (l.i-end - l.i) ≡ ends_from l.places (g.P.Plan.program l.plan) 0 l.i-end) × (l.all.round.0 ≤ l.i)
+abbrev pub invariant-loop : goal.invariant-loop
+invariant-loop g l = (l.places ≤ place_cap) × Stands l.places (g.P.Plan.program l.plan) l.all × (ends_from l.places (g.P.Plan.program l.plan) l.all.round.0 (l.end - l.counter) ≡ ends_from l.places (g.P.Plan.program l.plan) 0 l.end) × (l.all.round.0 ≤ l.counter)

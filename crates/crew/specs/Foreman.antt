@@ -5,10 +5,8 @@ use Rattle.meaning.specs.Caps.{round_cap}
 use Rattle.crew.specs.Job.{all_below}
 use Rattle.crew.specs.Journals.{Note, Began, Noted, last_began, last_noted}
 use Rattle.crew.specs.Messages.{Message, Batch, Ready, Go, Anew, PutBy, Hello, Parcel, to_all}
-use Rattle.crew.specs.Outcomes.{Reasons, wrong_kind, only_full, judged, is_taken}
+use Rattle.crew.specs.Outcomes.{Outcome, Taken, Reasons, wrong_kind, only_full, judged, is_taken}
 use Rattle.crew.specs.Worker.{attempt_cap, is_due}
-use Rattle.crew.specs.declared.outcome.Outcome.{Outcome}
-use Rattle.crew.specs.declared.outcome.Outcome.TheVariants.{Taken}
 
 -- attempt, start: the attempt that it began last, and from which round
 -- at: the round that all are in; ready: who is ready for the next; ending: all of these said that theirs is over

@@ -1,8 +1,6 @@
 -- What a message comes to, and the numbers of refusals.
 -- Assumes nothing.
-use Rattle.std.specs.Prelude.{ℕ, Bool, true, false, cond}
-use Rattle.crew.specs.declared.outcome.Outcome.{Outcome}
-use Rattle.crew.specs.declared.outcome.Outcome.TheVariants.{Taken, Refused}
+use Rattle.std.specs.Prelude.{ℕ, Bool, true, false, cond, Ok, Err, Result}
 use Rattle.crew.specs.declared.outcome.Refusal.{Refusal}
 use Rattle.crew.specs.declared.outcome.Refusal.TheVariants.{Malformed, Stale, Double, Foreign, NotReady, NoCheckpoint, UsedUp}
 
@@ -15,9 +13,19 @@ number_of NotReady = 5
 number_of NoCheckpoint = 6
 number_of UsedUp = 7
 
+-- It was taken, or it was refused.
+abbrev pub Outcome : Type 0
+Outcome = Result (Unit {0}) Refusal
+
+abbrev pub Taken : Outcome
+Taken = Ok tt
+
+abbrev pub Refused : Refusal → Outcome
+Refused y = Err y
+
 abbrev pub outcome_number : Outcome → ℕ
-outcome_number Taken = 0
-outcome_number (Refused y) = number_of y
+outcome_number (Ok done) = 0
+outcome_number (Err y) = number_of y
 
 -- Which of the seven reasons hold.
 pub record Reasons : Type 0 where
@@ -48,5 +56,5 @@ judged y =
     Taken))))))
 
 abbrev pub is_taken : Outcome → Bool
-is_taken Taken = true
-is_taken (Refused y) = false
+is_taken (Ok done) = true
+is_taken (Err y) = false

@@ -1,23 +1,16 @@
 -- The foreman as it is stored, and what its calls come to.
 -- Assumes nothing.
-use Rattle.std.specs.Prelude.{◌≡◌, ℕ, Bool, true, false, not, List, [], Some, None, vec_items, slice_index_or}
+use Rattle.std.specs.Prelude.{◌≡◌, ℕ, Bool, false, not, List, [], Some, None, vec_items, slice_index_or}
 use Rattle.crew.specs.Foreman as F
 use Rattle.crew.specs.Journals as J
 use Rattle.crew.specs.Messages.{to_all}
-use Rattle.crew.specs.Outcomes.{Reasons, judged, only_full}
+use Rattle.crew.specs.Outcomes.{Outcome, Reasons, judged, only_full}
 use Rattle.crew.specs.Ready.{bit}
 use Rattle.crew.specs.Stored.{notes_of, parcels_of}
-use Rattle.crew.specs.declared.foreman.End.{End}
-use Rattle.crew.specs.declared.foreman.End.TheVariants.{Going, Over}
 use Rattle.crew.specs.declared.foreman.Foreman.{Foreman}
 use Rattle.crew.specs.declared.foreman.OpenFault.{OpenFault}
 use Rattle.crew.specs.declared.foreman.OpenFault.TheVariants as fault
 use Rattle.crew.specs.declared.foreman.Paced.{Paced}
-use Rattle.crew.specs.declared.outcome.Outcome.{Outcome}
-
-abbrev pub is_over : End → Bool
-is_over Going = false
-is_over Over = true
 
 -- Past the 64 workers that there may be, none is ready, and nobody said more than the round that the attempt began from.
 abbrev pub foreman_of : Foreman → F.Foreman
@@ -26,9 +19,9 @@ foreman_of f =
       attempt = f.attempt.0;
       start = f.start.0;
       at = f.at.0;
-      ready = bit f.ready;
+      ready = bit f.ready.0;
       ending = f.ending;
-      over = is_over f.end;
+      over = f.over;
       noted = f.noted.0;
       kept = λ j. (slice_index_or f.kept j f.start).0;
       quiet = f.quiet;

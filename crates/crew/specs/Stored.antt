@@ -16,12 +16,12 @@ use Rattle.crew.specs.declared.message.Kind.TheVariants as kind
 use Rattle.crew.specs.declared.message.Parcel.{Parcel}
 
 abbrev pub message_of : Kind → List Letter → M.Message
-message_of (kind.Batch k r f t) ls = M.Batch k.0 r.0 f.0 t.0 ls
-message_of (kind.Ready k r e) ls = M.Ready k.0 r.0 e
-message_of (kind.Go k r nr e) ls = M.Go k.0 r.0 nr.0 e
-message_of (kind.Anew k r) ls = M.Anew k.0 r.0
-message_of (kind.PutBy k r) ls = M.PutBy k.0 r.0
-message_of (kind.Hello k) ls = M.Hello k.0
+message_of (kind.Batch b) ls = M.Batch b.attempt.0 b.round.0 b.from.0 b.to.0 ls
+message_of (kind.Ready y) ls = M.Ready y.attempt.0 y.round.0 y.over
+message_of (kind.Go g) ls = M.Go g.attempt.0 g.round.0 g.noted.0 g.over
+message_of (kind.Anew a) ls = M.Anew a.attempt.0 a.round.0
+message_of (kind.PutBy p) ls = M.PutBy p.attempt.0 p.round.0
+message_of (kind.Hello h) ls = M.Hello h.attempt.0
 
 abbrev pub parcel_of : Parcel → M.Parcel
 parcel_of p = record { from = p.from.0; to = p.to.0; message = message_of p.kind (letters_of p.letters) }

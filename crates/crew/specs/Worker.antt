@@ -7,9 +7,7 @@ use Rattle.meaning.specs.Meaning.{Letter, Turn, View, letters_for, none, turn, s
 use Rattle.crew.specs.Job.{Job, places_of, letters_to, share_of, all_below}
 use Rattle.crew.specs.Journals.{Record, Checkpoint, Joined, last_joined, checkpoint_of, greatest_below}
 use Rattle.crew.specs.Messages.{Message, Batch, Ready, Go, Anew, PutBy, Hello, Parcel, foreman_line}
-use Rattle.crew.specs.Outcomes.{Reasons, wrong_kind, only_full, outcome_number, judged, is_taken}
-use Rattle.crew.specs.declared.outcome.Outcome.{Outcome}
-use Rattle.crew.specs.declared.outcome.Outcome.TheVariants.{Taken}
+use Rattle.crew.specs.Outcomes.{Outcome, Taken, Reasons, wrong_kind, only_full, outcome_number, judged, is_taken}
 
 -- joined: it is in its attempt; one that came up is out until it joins one
 -- round, share: how many rounds are done, and what it has after them

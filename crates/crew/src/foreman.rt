@@ -3,34 +3,33 @@ ghost use Rattle.std.specs.Prelude.{◌≡◌, ◌<◌, ◌≤◌, length};
 ghost use Rattle.crew.specs.Foreman.{patience};
 ghost use Rattle.crew.specs.Job.{worker_cap};
 ghost use Rattle.crew.specs.Worker.{attempt_cap};
+ghost use Rattle.crew.specs.declared.foreman.OpenFault.TheVariants.{Memory};
 
+use crate::foreman::ready::Workers;
 use crate::journal::{Note, Owed};
 use crate::numbers::Attempt;
 use crate::outcome::Outcome;
 use meaning::Round;
+use std::alloc::AllocError;
+use thiserror::Error;
 
 mod calls;
 mod opens;
 mod ready;
 mod takes;
 
-// Whether it said that it is over.
-#[derive(Clone, Copy)]
-pub enum End {
-    Going,
-    Over,
-}
-
+// Its state is a value, changed and handed back, so that a call that fails leaves it as it was.
 #[derive(Clone, Copy)]
 pub struct Foreman {
     // the attempt that it began last, and from which round
     attempt: Attempt,
     start: Round,
-    // the round that all are in; who is ready for the next, as the bits of one word; all of these said that theirs is over
+    // the round that all are in; who is ready for the next; all of these said that theirs is over
     at: Round,
-    ready: u64,
+    ready: Workers,
     ending: bool,
-    end: End,
+    // it said that it is over
+    over: bool,
     // the last round of which all have a checkpoint, and the last that each worker said in this attempt it has one of
     noted: Round,
     kept: [Round; 64],
@@ -51,10 +50,18 @@ pub struct Paced {
 }
 
 // Why a foreman did not open.
-#[derive(Clone, Copy, Debug, PartialEq, Eq)]
+#[derive(Clone, Copy, Debug, PartialEq, Eq, Error)]
 pub enum OpenFault {
-    // there is no attempt left to begin
+    #[error("there is no attempt left to begin")]
     UsedUp,
-    // no memory
+    #[error("no memory")]
     Memory,
+}
+
+impl From<AllocError> for OpenFault {
+    ghost from_gives = { λ _ e. e ≡ Memory };
+
+    fn from(_e: AllocError) -> OpenFault {
+        OpenFault::Memory
+    }
 }

@@ -6,6 +6,8 @@ use packed::Strings;
 
 mod calls;
 
+pub use calls::is_due;
+
 // What a worker has of its places: states and rests by rising place, and the letters for them by rising senders.
 #[derive(Drop)]
 pub struct Share {
@@ -22,7 +24,7 @@ pub enum Record {
 }
 
 // A record of the foreman's: an attempt that it began; the last round of which all have a checkpoint.
-#[derive(Clone, Copy)]
+#[derive(Clone, Copy, Debug, PartialEq, Eq)]
 pub enum Note {
     Began { attempt: Attempt },
     Noted { round: Round },

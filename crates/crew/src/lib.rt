@@ -7,10 +7,12 @@ mod message;
 mod numbers;
 mod outcome;
 mod partition;
+#[cfg(test)]
+mod tests;
 
 pub use foreman::{Foreman, OpenFault, Paced};
-pub use journal::{Journal, Note, Owed, Record, Share};
-pub use message::{Kind, Parcel};
-pub use numbers::{Attempt, Line};
+pub use journal::{Journal, Note, Owed, Record, Share, is_due};
+pub use message::{Anew, Batch, Go, Hello, Kind, Parcel, PutBy, Ready};
+pub use numbers::{ATTEMPTS, Attempt, Line, PLACES, ROUNDS, WORKERS};
 pub use outcome::{Outcome, Refusal};
 pub use partition::{Partition, PartitionFault, Stretch};

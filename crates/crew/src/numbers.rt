@@ -1,4 +1,4 @@
-// Numbers that are not to be taken for each other.
+// Numbers that are not to be taken for each other, and how far they go.
 
 // An attempt (an epoch): everything that is said bears the one that it is of.
 #[derive(Clone, Copy, Debug, PartialEq, Eq, PartialOrd, Ord)]
@@ -12,7 +12,14 @@ impl Line {
     pub const FOREMAN: Line = Line(64);
 }
 
-// Attempts are numbered below this, and rounds are done up to that many.
-pub(crate) const ATTEMPTS: u32 = 1 << 31;
+// Attempts are numbered below this.
+pub const ATTEMPTS: u32 = 1 << 31;
 
-pub(crate) const ROUNDS: u32 = (1 << 31) - 1;
+// So many rounds can be done.
+pub const ROUNDS: u32 = (1 << 31) - 1;
+
+// So many workers may be in a crew.
+pub const WORKERS: u8 = 64;
+
+// So many places may be in a job.
+pub const PLACES: u32 = 1 << 20;

@@ -19,8 +19,5 @@ pub enum Refusal {
     UsedUp,
 }
 
-#[derive(Clone, Copy, Debug, PartialEq, Eq)]
-pub enum Outcome {
-    Taken,
-    Refused(Refusal),
-}
+// A message was taken, or why it was not.
+pub type Outcome = Result<(), Refusal>;

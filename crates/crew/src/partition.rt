@@ -1,34 +1,49 @@
 // Who has which place.
 ghost use Rattle.std.specs.Prelude.{◌≡◌, ℕ, ◌<◌, ◌≤◌, vec_len, slice_index};
+ghost use Rattle.crew.specs.Job.{worker_cap};
+ghost use Rattle.crew.specs.declared.partition.PartitionFault.TheVariants.{Memory};
 ghost use Rattle.meaning.specs.Caps.{place_cap};
 
 use crate::numbers::Line;
 use meaning::Place;
+use std::alloc::AllocError;
+use thiserror::Error;
 
 mod calls;
+mod counts;
 
 // From this place on, up to the next stretch, places are the worker's.
-#[derive(Clone, Copy)]
+#[derive(Clone, Copy, Debug, PartialEq, Eq)]
 pub struct Stretch {
     pub first: Place,
     pub worker: Line,
 }
 
 // Why there is no such table.
-#[derive(Clone, Copy, Debug, PartialEq, Eq)]
+#[derive(Clone, Copy, Debug, PartialEq, Eq, Error)]
 pub enum PartitionFault {
-    // more than 2^20 places
+    #[error("more than 1048576 places")]
     Places,
-    // no worker, or more than 64
+    #[error("a crew has 1 to 64 workers")]
     Workers,
-    // the stretch at this index cannot stand there: the first does not begin at place 0, a later one not after the one
-    // before it, or its place or its worker isn't there
+    // The one at this index cannot stand there: the first does not begin at place 0, a later one not after the one
+    // before it, or its place or its worker isn't there.
+    #[error("the stretches are bad")]
     Stretches { index: usize },
-    // no memory
+    #[error("no memory")]
     Memory,
 }
 
-// The table that all machines have: of how many places and workers, and the worker of each place.
+impl From<AllocError> for PartitionFault {
+    ghost from_gives = { λ _ e. e ≡ Memory };
+
+    fn from(_e: AllocError) -> PartitionFault {
+        PartitionFault::Memory
+    }
+}
+
+// The table that all machines have: of how many places and workers, and the worker of each place. The number of places
+// stands beside the owners, since it is a number of places to all who ask, and their length is a number of bytes.
 #[derive(Drop)]
 pub struct Partition {
     places: u32,
@@ -36,7 +51,7 @@ pub struct Partition {
     owners: Vec<u8>,
     ghost few: { places ≤ place_cap },
     ghost some: { 1 ≤ workers },
-    ghost many: { workers ≤ 64 },
+    ghost many: { workers ≤ worker_cap },
     ghost long: { vec_len owners ≡ places },
     ghost owned: { ((v : ℕ) → v < places → slice_index owners.items v < workers) },
 }

@@ -9,9 +9,7 @@ use Rattle.meaning.specs.Meaning.{Letter, View, rounds, is_over}
 use Rattle.crew.specs.Job.{Job, Proper, meant, letters_to, letters_by, share_of, all_below}
 use Rattle.crew.specs.Journals.{Record, Checkpoint, Joined, Note, Began, Noted, last_began, last_noted, checkpoint_from, checkpoint_of, greatest_below}
 use Rattle.crew.specs.Messages.{Message, Batch, Ready, Go, Anew, PutBy, Hello, Parcel, foreman_line, to_all}
-use Rattle.crew.specs.Outcomes.{outcome_number, judged, only_full, is_taken}
-use Rattle.crew.specs.declared.outcome.Outcome.{Outcome}
-use Rattle.crew.specs.declared.outcome.Outcome.TheVariants.{Taken}
+use Rattle.crew.specs.Outcomes.{Outcome, Taken, outcome_number, judged, only_full, is_taken}
 use Rattle.crew.specs.Worker as W
 use Rattle.crew.specs.Foreman as F
 use Rattle.runs.specs.Promise.{silent_meant, work_meant, TrueWorker, TrueRecord, TrueMessage}

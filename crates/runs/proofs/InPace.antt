@@ -1,16 +1,14 @@
 -- Every run keeps pace, and what follows: workers are in step, an attempt has one round, and nobody is found unready.
 -- Assumes nothing.
-use Rattle.std.proofs.Common.{◌≡◌, ℕ, ◌+◌, ◌<◌, ◌≤◌, false, List, Some, sym, refl, ap, ◌∙◌, subst, arith}
+use Rattle.std.proofs.Common.{◌≡◌, ℕ, ◌+◌, ◌<◌, ◌≤◌, false, List, Some, Ok, Err, sym, refl, ap, ◌∙◌, subst, arith}
 use mathlib.Core.List.{Memᴰ}
 use Rattle.meaning.specs.Caps.{round_cap}
 use Rattle.crew.specs.Job.{Job}
 use Rattle.crew.specs.Journals.{Record, last_began}
 use Rattle.crew.specs.Messages.{Message, Batch, Ready, Go, Anew, PutBy, Hello, foreman_line}
-use Rattle.crew.specs.Outcomes.{outcome_number, judged}
+use Rattle.crew.specs.Outcomes.{Outcome, Taken, outcome_number, judged}
 use Rattle.crew.specs.Worker.{Worker, reasons, taking, took_by, took}
 use Rattle.crew.specs.Foreman.{Foreman}
-use Rattle.crew.specs.declared.outcome.Outcome.{Outcome}
-use Rattle.crew.specs.declared.outcome.Outcome.TheVariants.{Taken, Refused}
 use Rattle.runs.specs.World.{World, began, Call, Open, Take, Tick, Work, worker_effect, Heard, Act, worker, foreman, Step, acts, worker_crash, foreman_crash, Reach, start, then}
 use Rattle.runs.specs.Promise.{InStep, OneRound, NeverUnready}
 use Rattle.runs.proofs.Lists.{all_mem, nobody}
@@ -104,8 +102,8 @@ numbered b i js x j m n e = go (judged (reasons b i js x j m)) e
     taken (Hello k) = refl
 
     go : (o : Outcome) → outcome_number (took_by b i js x j m o).outcome ≡ n → outcome_number o ≡ n
-    go Taken q = sym (ap outcome_number (taken m)) ∙ q
-    go (Refused y) q = q
+    go (Ok done) q = sym (ap outcome_number (taken m)) ∙ q
+    go (Err y) q = q
 
 pub never_unready : NeverUnready
 never_unready b proper w reach i j lt x u m c =

@@ -10,7 +10,7 @@ use Rattle.crew.specs.Journals.{Record, Note, Began, Noted}
 use Rattle.crew.specs.Messages.{PutBy, Parcel, foreman_line}
 use Rattle.crew.specs.Worker as W
 use Rattle.crew.specs.Foreman as F
-use Rattle.crew.specs.declared.outcome.Outcome.TheVariants.{Taken}
+use Rattle.crew.specs.Outcomes.{Taken}
 use Rattle.runs.specs.World.{World, Machine, put, Take, Tick, by_worker, by_foreman, foreman_effect, Reach}
 use Rattle.runs.specs.Promise.{NotesOn}
 use Rattle.runs.proofs.Lists.{put_same, put_other, put_all, below_next, least_is}

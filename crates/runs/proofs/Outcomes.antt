@@ -2,9 +2,7 @@
 -- Assumes nothing.
 use Rattle.std.proofs.Common.{◌≡◌, Bool, true, false, cond, refl, arith}
 use Rattle.std.proofs.lemmas.Bool.{true≢false, false≢true}
-use Rattle.crew.specs.Outcomes.{Reasons, outcome_number, judged, is_taken}
-use Rattle.crew.specs.declared.outcome.Outcome.{Outcome}
-use Rattle.crew.specs.declared.outcome.Outcome.TheVariants.{Taken, Refused}
+use Rattle.crew.specs.Outcomes.{Outcome, Taken, Refused, Reasons, outcome_number, judged, is_taken}
 use Rattle.crew.specs.declared.outcome.Refusal.{Refusal}
 use Rattle.crew.specs.declared.outcome.Refusal.TheVariants.{Malformed, Stale, Double, Foreign, NotReady, NoCheckpoint, UsedUp}
 

@@ -8,10 +8,9 @@ use Rattle.meaning.specs.Caps.{round_cap}
 use Rattle.crew.specs.Job.{Job, all_below}
 use Rattle.crew.specs.Journals.{Record, Note, Began, Noted, last_began, last_noted}
 use Rattle.crew.specs.Messages.{Message, Batch, Ready, Go, Anew, PutBy, Hello, Parcel, foreman_line, to_all}
-use Rattle.crew.specs.Outcomes.{judged, is_taken, only_full}
+use Rattle.crew.specs.Outcomes.{Taken, judged, is_taken, only_full}
 use Rattle.crew.specs.Worker.{Worker, is_due, attempt_cap}
 use Rattle.crew.specs.Foreman.{Foreman, Reply, unmoved, begun, saying, begins, opened, ticked, is_report, reasons, with_ready, advanced, counted, with_kept, least_kept, notes, taking, took}
-use Rattle.crew.specs.declared.outcome.Outcome.TheVariants.{Taken}
 use Rattle.runs.specs.World.{World, Machine, Effect, Call, Open, Take, Tick, Work, by_foreman, put, foreman_call, Heard}
 use Rattle.runs.proofs.Lists.{all_mem, all_made, only, put_same, put_other, all_below_lem, least_is, least_first, least_le}
 use Rattle.runs.proofs.Journals.{level, has, began_append, noted_append}

@@ -9,9 +9,8 @@ use Rattle.meaning.specs.Meaning.{Letter, View}
 use Rattle.crew.specs.Job.{Job, all_below}
 use Rattle.crew.specs.Journals.{Record, Checkpoint, Joined, last_joined, greatest_below}
 use Rattle.crew.specs.Messages.{Message, Batch, Ready, Go, Anew, PutBy, Hello, Parcel}
-use Rattle.crew.specs.Outcomes.{outcome_number, judged, is_taken, only_full}
+use Rattle.crew.specs.Outcomes.{Taken, outcome_number, judged, is_taken, only_full}
 use Rattle.crew.specs.Worker.{Worker, is_ready, is_due, is_silent, batch_to, to_foreman, says_batches, says_ready, says_put_by, nothing_got, joined_at, out_of, first_share, opened, ticked, is_idle, with_worked, did_work, works, unmoved, reasons, with_batch, next_share, share_at, taking, answer, took}
-use Rattle.crew.specs.declared.outcome.Outcome.TheVariants.{Taken}
 use Rattle.runs.specs.World.{Machine, Call, Open, Take, Tick, Work, by_worker, worker_call}
 use Rattle.runs.proofs.Lists.{nobody, only, all_made, all_below_lem, below_all}
 use Rattle.runs.proofs.Journals.{level, has, has_more, has_new, level_joined, level_kept}

@@ -4,11 +4,9 @@ use Rattle.std.proofs.Common.{◌≡◌, ℕ, ◌<◌, ◌≤◌, Bool, true, fa
 use Rattle.meaning.specs.Meaning.{Letter, View}
 use Rattle.crew.specs.Job.{Job}
 use Rattle.crew.specs.Messages.{Message}
-use Rattle.crew.specs.Outcomes.{judged}
+use Rattle.crew.specs.Outcomes.{Outcome, Taken, judged}
 use Rattle.crew.specs.Worker as W
 use Rattle.crew.specs.Foreman as F
-use Rattle.crew.specs.declared.outcome.Outcome.{Outcome}
-use Rattle.crew.specs.declared.outcome.Outcome.TheVariants.{Taken}
 use Rattle.runs.specs.World.{World, Take, Tick, by_worker, by_foreman, worker_call, foreman_call, worker_effect, foreman_effect}
 
 -- a worker in attempt k, after r rounds, with what it worked and got; and whether it was told over

@@ -7,11 +7,9 @@ use Rattle.meaning.specs.Caps.{round_cap}
 use Rattle.crew.specs.Job.{Job, Proper}
 use Rattle.crew.specs.Journals.{Record, Note, Began, last_began, last_noted, checkpoint_of}
 use Rattle.crew.specs.Messages.{Anew, foreman_line, to_all}
-use Rattle.crew.specs.Outcomes.{outcome_number, only_full, judged}
+use Rattle.crew.specs.Outcomes.{Outcome, Taken, outcome_number, only_full, judged}
 use Rattle.crew.specs.Worker as W
 use Rattle.crew.specs.Foreman as F
-use Rattle.crew.specs.declared.outcome.Outcome.{Outcome}
-use Rattle.crew.specs.declared.outcome.Outcome.TheVariants.{Taken}
 use Rattle.runs.specs.World.{World, Open, Take, Tick, by_worker, by_foreman, worker_call, foreman_call, Reach}
 use Rattle.runs.specs.Promise.{Roomy, Going}
 use Rattle.runs.proofs.Said.{said_to_each}

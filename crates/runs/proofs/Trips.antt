@@ -9,10 +9,9 @@ use Rattle.meaning.specs.Meaning.{Letter, View, is_over}
 use Rattle.crew.specs.Job.{Job, Proper, meant, letters_to, letters_by}
 use Rattle.crew.specs.Journals.{Record}
 use Rattle.crew.specs.Messages.{Message, Batch, Ready, Go, Anew, Parcel, foreman_line, to_all}
-use Rattle.crew.specs.Outcomes.{only_full, judged}
+use Rattle.crew.specs.Outcomes.{Taken, only_full, judged}
 use Rattle.crew.specs.Worker as W
 use Rattle.crew.specs.Foreman as F
-use Rattle.crew.specs.declared.outcome.Outcome.TheVariants.{Taken}
 use Rattle.runs.specs.World.{World, Machine, put, Take, Tick, Work, by_worker, by_foreman, worker_call, foreman_effect, Reach}
 use Rattle.runs.specs.Promise.{TrueMessage, Ended}
 use Rattle.runs.proofs.Lists.{all_mem, mem_each, put_here, put_there, below_next, below_all, below_not}

@@ -1,16 +1,18 @@
 // What a foreman is asked, how it begins an attempt, and what it says.
-ghost use Rattle.std.specs.Prelude.{◌≡◌, ℕ, ◌+◌, ◌<◌, ◌≤◌, [], ◌∷◌, ◌++◌, IfOk};
+ghost use Rattle.std.specs.Prelude.{◌≡◌, ℕ, ◌+◌, ◌<◌, ◌≤◌, [], ◌∷◌, ◌++◌, IfOk, Some};
 ghost use Rattle.crew.specs.Foreman.{begins, begun as begun_as, is_last, saying as saying_of, ticked, unmoved as unmoved_by};
 ghost use Rattle.crew.specs.Job.{worker_cap};
 ghost use Rattle.crew.specs.Journals.{Began};
 ghost use Rattle.crew.specs.Messages.{to_all};
-ghost use Rattle.crew.specs.Paced.{again, foreman_of, Gives, is_over};
-ghost use Rattle.crew.specs.Stored.{message_of, notes_of, parcels_of};
+ghost use Rattle.crew.specs.Outcomes.{Taken};
+ghost use Rattle.crew.specs.Paced.{again, foreman_of, Gives};
+ghost use Rattle.crew.specs.Stored.{message_of, note_of, notes_of, parcels_of};
 ghost use Rattle.crew.specs.Worker.{attempt_cap};
 
-use crate::foreman::{End, Foreman, Paced};
+use crate::foreman::ready::Workers;
+use crate::foreman::{Foreman, Paced};
 use crate::journal::{Note, Owed};
-use crate::message::{Kind, Parcel};
+use crate::message::{Anew, Go, Kind, Parcel};
 use crate::numbers::{ATTEMPTS, Attempt, Line};
 use crate::outcome::{Outcome, Refusal};
 use meaning::{Letters, Round};
@@ -45,30 +47,27 @@ impl Foreman {
     pub fn is_over(&self) -> bool
         ensures { result ≡ (foreman_of self.now).over }
     {
-        match self.end {
-            End::Going => false,
-            End::Over => true,
-        }
+        self.over
     }
 
     // Everything again; and at the hundredth tick with nothing taken, an attempt anew.
     pub fn tick(mut self, heap: Global) -> Result<Paced, AllocError>
         ensures { IfOk result (Gives self.workers (ticked self.workers (foreman_of self))) }
     {
-        if self.is_over() {
-            return self.say_again(heap, Outcome::Taken);
+        if self.over {
+            return self.say_again(heap, Ok(()));
         }
         if self.quiet + 1 < PATIENCE {
             self.quiet += 1;
-            return self.say_again(heap, Outcome::Taken);
+            return self.say_again(heap, Ok(()));
         }
         if self.is_last() {
-            return self.say_again(heap, Outcome::Refused(Refusal::UsedUp));
+            return self.say_again(heap, Err(Refusal::UsedUp));
         }
         self.begin(heap, self.noted, Vec::new(heap))
     }
 
-    // An attempt from a round.
+    // In an attempt, from a round.
     pub(crate) fn begun(workers: u8, attempt: Attempt, round: Round) -> Foreman
         requires early { attempt.0 < attempt_cap }
         requires many { workers ≤ worker_cap }
@@ -79,9 +78,9 @@ impl Foreman {
             attempt,
             start: round,
             at: round,
-            ready: 0,
+            ready: Workers::NONE,
             ending: true,
-            end: End::Going,
+            over: false,
             noted: round,
             kept: [round; 64],
             quiet: 0,
@@ -100,18 +99,29 @@ impl Foreman {
     fn saying(&self) -> Kind
         ensures { message_of result [] ≡ saying_of (foreman_of self.now) }
     {
-        if self.at.0 == self.start.0 && self.attempt.0 > 0 {
-            Kind::Anew {
+        if self.at == self.start && self.attempt > Attempt(0) {
+            Kind::Anew(Anew {
                 attempt: self.attempt,
                 round: self.start,
-            }
+            })
         } else {
-            Kind::Go {
+            Kind::Go(Go {
                 attempt: self.attempt,
                 round: self.at,
                 noted: self.noted,
-                over: self.is_over(),
-            }
+                over: self.over,
+            })
+        }
+    }
+
+    // It owes these notes and messages.
+    fn owing(self, appends: Vec<Note>, says: Vec<Parcel>, outcome: Outcome) -> Paced
+        ensures { Gives self.workers (record { state = Some (foreman_of self); appends = notes_of appends.items; says = parcels_of says.items; outcome = outcome }) result }
+    {
+        Paced {
+            foreman: self,
+            owed: Owed::new(appends, says),
+            outcome,
         }
     }
 
@@ -119,11 +129,7 @@ impl Foreman {
     pub(crate) fn unmoved(self, heap: Global, outcome: Outcome) -> Paced
         ensures { Gives self.workers (unmoved_by (foreman_of self) outcome) result }
     {
-        Paced {
-            foreman: self,
-            owed: Owed::new(Vec::new(heap), Vec::new(heap)),
-            outcome,
-        }
+        self.owing(Vec::new(heap), Vec::new(heap), outcome)
     }
 
     // Says to all what it says now.
@@ -131,11 +137,15 @@ impl Foreman {
         ensures { IfOk result (Gives self.workers (again self.workers (foreman_of self) outcome)) }
     {
         let says = to_all(heap, self.workers, self.saying())?;
-        Ok(Paced {
-            foreman: self,
-            owed: Owed::new(Vec::new(heap), says),
-            outcome,
-        })
+        Ok(self.owing(Vec::new(heap), says, outcome))
+    }
+
+    // Writes a note, and says nothing.
+    pub(crate) fn noting(self, heap: Global, note: Note) -> Result<Paced, AllocError>
+        ensures { IfOk result (Gives self.workers (record { state = Some (foreman_of self); appends = note_of note ∷ []; says = []; outcome = Taken })) }
+    {
+        let appends = vec![in heap; note]?;
+        Ok(self.owing(appends, Vec::new(heap), Ok(())))
     }
 
     // Begins the next attempt, from a round; these notes are written before.
@@ -150,17 +160,14 @@ impl Foreman {
     {
         let attempt = Attempt(self.attempt.0 + 1);
         notes.push(Note::Began { attempt })?;
-        let says = to_all(heap, self.workers, Kind::Anew { attempt, round })?;
-        Ok(Paced {
-            foreman: Foreman::begun(self.workers, attempt, round),
-            owed: Owed::new(notes, says),
-            outcome: Outcome::Taken,
-        })
+        let says = to_all(heap, self.workers, Kind::Anew(Anew { attempt, round }))?;
+        let begun = Foreman::begun(self.workers, attempt, round);
+        Ok(begun.owing(notes, says, Ok(())))
     }
 }
 
 // The same to each worker. Only batches have letters, and the foreman sends none.
-pub(crate) fn to_all(heap: Global, workers: u8, kind: Kind) -> Result<Vec<Parcel>, AllocError>
+fn to_all(heap: Global, workers: u8, kind: Kind) -> Result<Vec<Parcel>, AllocError>
     ensures { IfOk result (λ v. parcels_of v.items ≡ to_all workers (message_of kind [])) }
 {
     let mut says = Vec::new(heap);

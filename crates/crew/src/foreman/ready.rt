@@ -3,17 +3,36 @@ ghost use Rattle.std.specs.Prelude.{◌≡◌, ℕ, ◌-◌, ◌^◌, ◌<◌, �
 ghost use Rattle.crew.specs.Job.{all_below};
 ghost use Rattle.crew.specs.Ready.{bit};
 
-pub(crate) fn with(word: u64, j: u8) -> u64
-    requires { j < 64 }
-    ensures { (k : ℕ) → bit result k ≡ (k == j || bit word k) }
-{
-    word | (1 << j)
-}
+use crate::numbers::Line;
 
-pub(crate) fn has(word: u64, j: u8) -> bool
-    ensures { result ≡ bit word j }
-{
-    j < 64 && (word >> j) % 2 == 1
+// Workers, each by the bit of its line.
+#[derive(Clone, Copy)]
+pub(crate) struct Workers(u64);
+
+impl Workers {
+    pub(crate) const NONE: Workers = Workers(0);
+
+    pub(crate) fn with(self, line: Line) -> Workers
+        requires { line.0 < 64 }
+        ensures { (k : ℕ) → bit result.0 k ≡ (k == line.0 || bit self.0 k) }
+    {
+        Workers(self.0 | (1 << line.0))
+    }
+
+    pub(crate) fn has(self, line: Line) -> bool
+        ensures { result ≡ bit self.0 line.0 }
+    {
+        line.0 < 64 && (self.0 >> line.0) % 2 == 1
+    }
+
+    // Whether the first so many are among them.
+    pub(crate) fn has_all(self, count: u8) -> bool
+        requires { count ≤ 64 }
+        ensures { result ≡ all_below count (bit self.0) }
+    {
+        let full = full(count);
+        self.0 & full == full
+    }
 }
 
 // The word of the first so many.
@@ -26,13 +45,4 @@ fn full(count: u8) -> u64
     } else {
         (1 << count) - 1
     }
-}
-
-// Whether the first so many are among those of the word.
-pub(crate) fn all(word: u64, count: u8) -> bool
-    requires { count ≤ 64 }
-    ensures { result ≡ all_below count (bit word) }
-{
-    let full = full(count);
-    word & full == full
 }

@@ -1,6 +1,6 @@
-use Rattle.std.proofs.Common.{true, false, refl}
+use Rattle.std.proofs.Common.{true, false, eqb, refl}
 use Rattle.crew.proofs.Pacing.{same_all}
-use Rattle.crew.proofs.Words.{none_bit}
+use Rattle.std.proofs.lemmas.Nat.Bits.{bit_at-zero}
 use Rattle.crew.proofs.foreman.Foreman.begun.Goals as goal
 
 pub returns : goal.returns
@@ -12,7 +12,7 @@ returns c =
         attempt = c.args.attempt.0;
         start = r.0;
         at = r.0;
-        ready = λ j. none_bit j i;
+        ready = λ j. eqb (bit_at-zero j i) 1;
         ending = true;
         over = false;
         noted = r.0;

@@ -1,47 +1,42 @@
-use Rattle.std.proofs.Common.{◌≡◌, ℕ, ◌<◌, cond, [], ◌∷◌, ◌++◌, Some, vec_items, sym, ap, ◌∙◌, arith}
+use Rattle.std.proofs.Common.{◌≡◌, ℕ, ◌<◌, false, cond, eqb, List, [], ◌∷◌, length, get_or, set, Some, IfOk, sym, ap, ◌∙◌, subst, arith}
+use Rattle.std.proofs.lemmas.Bool.Decides.{nat_tests}
 use Rattle.std.proofs.lemmas.Bool.{lt-ltb}
+use Rattle.std.proofs.lemmas.Grind.{common_steps}
+use Rattle.std.specs.Ordering.{is_le, nat_cmp}
+use Rattle.meaning.specs.declared.numbers.Round.{Round}
 use Rattle.crew.specs.Foreman as F
 use Rattle.crew.specs.Journals as J
-use Rattle.crew.specs.Paced.{foreman_of}
-use Rattle.crew.specs.Stored.{notes_of, parcels_of}
-use Rattle.crew.specs.declared.journal.Note.TheVariants.{Noted}
-use Rattle.crew.specs.declared.outcome.Outcome.TheVariants.{Taken}
+use Rattle.crew.specs.Outcomes.{Taken}
+use Rattle.crew.specs.Paced.{foreman_of, Gives}
 use Rattle.crew.proofs.foreman.Foreman.note.Goals as goal
+
+-- what is not at most a number is above it
+above : (a b : ℕ) → is_le (nat_cmp a b) ≡ false → b < a
+above a b h = grind (arith, nat_tests)
+
+-- what worker k keeps once worker j keeps x
+keeps : (xs : List Round) (j k : ℕ) (x d : Round) → j < length xs → (get_or (set xs j x) k d).0 ≡ cond (eqb k j) x.0 (get_or xs k d).0
+keeps xs j k x d h = grind (arith, common_steps)
 
 pub returns : goal.returns
 returns c =
-    let m : ℕ = c.args.self.workers in
+    let s = c.args.self in
+    let m : ℕ = s.workers in
     let j : ℕ = c.args.line.0 in
     let r : ℕ = c.args.round.0 in
-    let f : F.Foreman = foreman_of c.args.self in
-    let told : F.Foreman = foreman_of c.with_kept-told.result in
-    let told_is : told ≡ F.with_kept f j r f.noted = c.with_kept-told.ensures.is in
-    let least : ℕ = c.least_kept-least.result.0 in
-    let least_is : least ≡ F.least_kept m f j r = c.least_kept-least.ensures ∙ (λ i. F.least_of r (c.with_kept-told.ensures.workers i) (told_is i).kept) in
-    let later : f.noted < F.least_kept m f j r = omega (arith, c.if-least-told.false, ap (λ (x : F.Foreman). x.noted) told_is, least_is) in
-    let notes : notes_of (vec_items c.new-2.result.appends) ≡ J.Noted (F.least_kept m f j r) ∷ [] =
-    ap (λ v. notes_of (vec_items v)) c.new-2.ensures.appends
-    ∙ ap notes_of (c.in_ok-push.ensures.items ∙ ap (λ xs. xs ++ Noted c.least_kept-least.result ∷ []) c.new-appends.ensures.items)
-    ∙ (λ i. J.Noted (least_is i) ∷ []) in
-    let says : parcels_of (vec_items c.new-2.result.says) ≡ [] = ap (λ v. parcels_of (vec_items v)) c.new-2.ensures.says ∙ ap parcels_of c.new.ensures.items in
-    record {
-      workers = c.with_kept-told.ensures.workers;
-      is =
-          (λ i. record {
-            state = Some (record {
-              attempt = (told_is i).attempt;
-              start = (told_is i).start;
-              at = (told_is i).at;
-              ready = (told_is i).ready;
-              ending = (told_is i).ending;
-              over = (told_is i).over;
-              noted = least_is i;
-              kept = (told_is i).kept;
-              quiet = (told_is i).quiet;
-            });
-            appends = notes i;
-            says = says i;
-            outcome = Taken;
-          })
-          ∙ sym (ap (λ b. cond b (record { state = Some (F.with_kept f j r (F.least_kept m f j r)); appends = J.Noted (F.least_kept m f j r) ∷ []; says = []; outcome = Taken }) (F.unmoved (F.with_kept f j r f.noted) Taken)) (lt-ltb f.noted (F.least_kept m f j r) later));
-    }
+    let f : F.Foreman = foreman_of s in
+    let then : ℕ → ℕ = λ k. (get_or (set s.kept j c.args.round) k s.start).0 in
+    let expected : ℕ → ℕ = λ k. cond (eqb k j) r (f.kept k) in
+    let kept : then ≡ expected = λ i k. keeps s.kept j k c.args.round s.start (omega (arith, s.wide, s.many)) i in
+    let least : c.least_kept-least.result.0 ≡ F.least_kept m f j r = c.least_kept-least.ensures ∙ ap (F.least_of r m) kept in
+    let later : f.noted < F.least_kept m f j r = omega (arith, above c.least_kept-least.result.0 f.noted (sym c.if-le.ensures), least) in
+    let noted : F.Reply = record { state = Some (F.with_kept f j r (F.least_kept m f j r)); appends = J.Noted (F.least_kept m f j r) ∷ []; says = []; outcome = Taken } in
+    let is : noted ≡ F.notes m f j r = sym (ap (λ b. cond b noted (F.unmoved (F.with_kept f j r f.noted) Taken)) (lt-ltb f.noted (F.least_kept m f j r) later)) in
+    let told : (nr : ℕ) → (ℕ → ℕ) → F.Reply =
+    λ nr g. record {
+      state = Some (record { attempt = f.attempt; start = f.start; at = f.at; ready = f.ready; ending = f.ending; over = f.over; noted = nr; kept = g; quiet = 0 });
+      appends = J.Noted nr ∷ [];
+      says = [];
+      outcome = Taken;
+    } in
+    subst (λ y. IfOk c.noting.result (Gives m y)) ((λ i. told (least i) (kept i)) ∙ is) c.noting.ensures

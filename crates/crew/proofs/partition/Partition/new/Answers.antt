@@ -1,12 +1,9 @@
-use Rattle.std.proofs.Common.{◌<◌, sym, subst, rules}
+use Rattle.std.proofs.Common.{◌<◌, arith}
 use Rattle.crew.proofs.Owners.{covered}
 use Rattle.crew.proofs.partition.Partition.new.Goals as goal
 
-pub invariant_of-result : goal.invariant_of-result
-invariant_of-result c = record {
-  few = search rules;
-  some = search rules;
-  many = search rules;
-  long = c.in-Ok.ensures.0;
-  owned = λ v h. subst (λ w. w < c.args.workers) (sym (c.in-Ok.ensures.1 v h)) (covered c.args.places c.args.workers c.args.stretches.now v c.in_default.ensures.1 c.in_default-misplaced.ensures);
-}
+pub invariant_of-result-clause-owned : goal.invariant_of-result-clause-owned
+invariant_of-result-clause-owned c v h =
+    let n = c.in_ok-counts.counts in
+    let here : v < n.places = omega (arith, c.in_ok-counts.ensures.0) in
+    omega (arith, c.in_ok-owners.ensures.1 v here, covered n.places n.workers c.args.stretches.now v n.some c.in_ok-check.ensures, c.in_ok-counts.ensures.1)

@@ -1,3 +1,4 @@
+pub mod Ahead
 pub mod Judging
 pub mod Slots
 pub mod Sharing

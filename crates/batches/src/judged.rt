@@ -19,30 +19,16 @@ pub fn well_formed(letters: &Letters, places: u32) -> bool
 fn rising(letters: &Letters) -> bool
     ensures { result ≡ rising_from 0 (letters_of letters.now) }
 {
-    let mut last = 0;
-    let mut k = 0;
-    while let Some(letter) = letters.get(k) {
-        if letter.head.from.0 < last {
-            return false;
-        }
-        last = letter.head.from.0;
-        k += 1;
-    }
-    true
+    letters
+        .iter()
+        .is_sorted_by(|a, b| a.head.from.0 <= b.head.from.0)
 }
 
 // All senders and receivers are below this.
 fn are_named(letters: &Letters, places: u32) -> bool
     ensures { result ≡ named places (letters_of letters.now) }
 {
-    let mut k = 0;
-    while let Some(letter) = letters.get(k) {
-        if !is_named(letter.head, places) {
-            return false;
-        }
-        k += 1;
-    }
-    true
+    letters.iter().all(|letter| is_named(letter.head, places))
 }
 
 fn is_named(head: Head, places: u32) -> bool
@@ -55,14 +41,9 @@ fn is_named(head: Head, places: u32) -> bool
 pub fn between(letters: &Letters, table: &Partition, from: Line, to: Line) -> bool
     ensures { result ≡ between_by (owner_of table.now) from.0 to.0 (letters_of letters.now) }
 {
-    let mut k = 0;
-    while let Some(letter) = letters.get(k) {
-        if !is_between(letter.head, table, from, to) {
-            return false;
-        }
-        k += 1;
-    }
-    true
+    letters
+        .iter()
+        .all(|letter| is_between(letter.head, table, from, to))
 }
 
 fn is_between(head: Head, table: &Partition, from: Line, to: Line) -> bool

@@ -13,11 +13,9 @@ pub fn cut(heap: Global, letters: &Letters, table: &Partition) -> Result<Vec<Let
     ensures { IfOk result (λ v. map letters_of v.items ≡ parts_of (owner_of table.now) table.now.workers (letters_of letters.now)) }
 {
     let mut parts = empty_parts(heap, table.workers() as usize)?;
-    let mut k = 0;
-    while let Some(letter) = letters.get(k) {
+    for letter in letters.iter() {
         let owner = table.owner(letter.head.to).0 as usize;
         parts[owner].push(letter.head, letter.bytes)?;
-        k += 1;
     }
     Ok(parts)
 }
@@ -26,9 +24,5 @@ pub fn cut(heap: Global, letters: &Letters, table: &Partition) -> Result<Vec<Let
 fn empty_parts(heap: Global, count: usize) -> Result<Vec<Letters>, AllocError>
     ensures { IfOk result (λ v. map letters_of v.items ≡ replicate count []) }
 {
-    let mut parts = Vec::with_capacity(heap, count)?;
-    while parts.len() < count {
-        parts.push(Letters::new(heap)?)?;
-    }
-    Ok(parts)
+    (0..count).map(|_| Letters::new(heap)).try_collect(heap)
 }

@@ -1,14 +1,19 @@
--- What holds of each number below another, from the last on.
-use Rattle.std.proofs.Common.{◌≡◌, ℕ, zero, suc, ◌-◌, ◌<◌, Bool, true, false, ◌&&◌, sym, ap, ◌∙◌, arith}
+-- What holds of each of the first slots, by their numbers.
+use Rattle.std.proofs.Common.{◌≡◌, ℕ, zero, suc, ◌≤◌, Bool, true, false, ◌&&◌, List, get_or, length, take, sym, refl, ap, ◌∙◌, add-one, arith}
+use Rattle.std.specs.List.{list_all}
+use Rattle.std.proofs.lemmas.List.Folds.{list_all_more}
 use Rattle.crew.specs.Job.{all_below}
 
-module _ (f : ℕ → Bool) where
-  last : (c : ℕ) → 0 < c → all_below c f ≡ (f (c - 1) && all_below (c - 1) f)
-  last zero h = absurd (omega arith)
-  last (suc c) h = let e : suc c - 1 ≡ c = omega arith in λ i. f (sym e i) && all_below (sym e i) f
+and_turned : (a b : Bool) → (a && b) ≡ (b && a)
+and_turned true true = refl
+and_turned true false = refl
+and_turned false true = refl
+and_turned false false = refl
 
-  pub not_here : (c : ℕ) → 0 < c → f (c - 1) ≡ false → all_below c f ≡ false
-  not_here c h e = last c h ∙ ap (λ t. t && all_below (c - 1) f) e
-
-  pub here : (c : ℕ) → 0 < c → f (c - 1) ≡ true → all_below c f ≡ all_below (c - 1) f
-  here c h e = last c h ∙ ap (λ t. t && all_below (c - 1) f) e
+pub front_below : {X : Type 0} (p : X → Bool) (f : ℕ → Bool) (xs : List X) (d : X) → ((j : ℕ) → p (get_or xs j d) ≡ f j) → (c : ℕ) → c ≤ length xs → list_all p (take c xs) ≡ all_below c f
+front_below p f xs d each zero h = refl
+front_below p f xs d each (suc c) h =
+    ap (λ n. list_all p (take n xs)) (sym (add-one c))
+    ∙ list_all_more p xs c d (omega arith)
+    ∙ (λ i. front_below p f xs d each c (omega arith) i && each c i)
+    ∙ and_turned (all_below c f) (f c)

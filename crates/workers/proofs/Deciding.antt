@@ -1,9 +1,7 @@
 -- Which refusal it comes to, reason by reason.
-use Rattle.std.proofs.Common.{◌≡◌, ℕ, Bool, true, false, cond, is_some, Some, None, Option, sym, refl, ap, ◌∙◌, arith}
+use Rattle.std.proofs.Common.{◌≡◌, Bool, true, false, cond, is_some, Some, None, Option, sym, refl, ap, ◌∙◌}
 use Rattle.std.specs.Option.{option_map}
-use Rattle.crew.specs.declared.outcome.Outcome.{Outcome}
-use Rattle.crew.specs.declared.outcome.Outcome.TheVariants.{Taken, Refused}
-use Rattle.crew.specs.declared.outcome.Refusal.{Refusal}
+use Rattle.crew.specs.Outcomes.{Outcome}
 
 -- this one holds
 pub stop : (b : Bool) (x rest : Outcome) → b ≡ true → x ≡ cond b x rest
@@ -16,7 +14,3 @@ skip b x y rest e p = p ∙ ap (λ t. cond t x rest) (sym e)
 pub some_mapped : {X Y : Type 0} (f : X → Y) (o : Option X) → is_some o ≡ is_some (option_map f o)
 some_mapped f None = refl
 some_mapped f (Some x) = refl
-
--- what is refused is not taken
-pub never : (y : Refusal) → Refused y ≡ Taken → ⊥
-never y e = let z : ◌≡◌ {A = ℕ} 0 1 = cc in omega arith

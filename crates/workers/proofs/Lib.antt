@@ -1,9 +1,10 @@
-pub mod Beginning
 pub mod Below
 pub mod Changing
-pub mod Counting
 pub mod Deciding
+pub mod Finding
 pub mod Opening
+pub mod Phasing
+pub mod Placing
 pub mod Records
 pub mod Sending
 pub mod Slots

@@ -1,18 +1,12 @@
 -- How a worker comes up, in one equation.
-use Rattle.std.proofs.Common.{◌≡◌, ℕ, suc, cond, eqb, List, [], ◌∷◌, map, length, refl, arith, ne_eqb}
+use Rattle.std.proofs.Common.{◌≡◌, ℕ, cond, List, [], ◌∷◌, refl}
 use Rattle.meaning.specs.Meaning.{none}
 use Rattle.crew.specs.Job.{Job}
 use Rattle.crew.specs.Journals as J
 use Rattle.crew.specs.Messages.{Hello}
-use Rattle.crew.specs.Stored.{record_of}
 use Rattle.crew.specs.Worker as W
-use Rattle.crew.specs.declared.journal.Record.{Record}
-use Rattle.crew.specs.declared.outcome.Outcome.TheVariants.{Taken}
+use Rattle.crew.specs.Outcomes.{Taken}
 use Rattle.workers.specs.Crewed.{started_as}
-
-pub fresh_is : (js : List Record) → eqb (length js) 0 ≡ none (map record_of js)
-fresh_is [] = refl
-fresh_is (x ∷ js) = ne_eqb (suc (length js)) 0 (λ e. omega arith)
 
 abbrev pub opened_by : Job → (i : ℕ) → List J.Record → W.Reply
 opened_by b i xs =

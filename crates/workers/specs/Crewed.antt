@@ -1,6 +1,6 @@
 -- A worker as the model has it, and its answers.
 -- Assumes nothing.
-use Rattle.std.specs.Prelude.{◌≡◌, ℕ, Bool, true, false, List, [], Some, None, vec_items, Option}
+use Rattle.std.specs.Prelude.{◌≡◌, ℕ, Bool, false, List, [], None, vec_items}
 use Rattle.std.specs.Option.{option_map}
 use Rattle.packed.specs.Strings.{items}
 use Rattle.meaning.specs.Mail.{received}
@@ -13,37 +13,30 @@ use Rattle.crew.specs.Shared.{job_of}
 use Rattle.crew.specs.Stored.{records_of, parcels_of}
 use Rattle.crew.specs.Worker as W
 use Rattle.workers.specs.Holding.{got_of}
+use Rattle.workers.specs.Phases.{is_in, is_over, worked_in}
 use Rattle.workers.specs.declared.answer.Answer.{Answer}
 use Rattle.workers.specs.declared.worker.Worker.{Worker}
 
 -- what it has of its places
 abbrev pub share_in : Worker → View
-share_in w = record { states = items w.states; rests = vec_items w.rests; post = received w.inbox }
+share_in w = record { states = items w.standing.states; rests = vec_items w.standing.rests; post = received w.inbox }
 
--- what it worked, once it has
-abbrev pub worked_in : Bool → View → Option View
-worked_in true v = Some v
-worked_in false v = None
-
-abbrev pub worker_as : (worked : Bool) → Worker → W.Worker
-worker_as t w =
+abbrev pub worker_of : Worker → W.Worker
+worker_of w =
     record {
-      joined = w.joined;
+      joined = is_in w.phase;
       attempt = w.attempt.0;
       round = w.round.0;
       share = share_in w;
-      worked = worked_in t (worked_of w.next);
+      worked = worked_in w.phase (worked_of w.next);
       got = got_of w.got;
-      over = w.over;
+      over = is_over w.phase;
       latest = option_map (λ (r : Round). r.0) w.latest;
     }
 
-abbrev pub worker_of : Worker → W.Worker
-worker_of w = worker_as w.worked w
-
 -- the job of its crew, with a program
 abbrev pub job_in : Worker → Program → Job
-job_in w q = job_of w.table q
+job_in w q = job_of w.station.table q
 
 -- with what its places begin with, in attempt k or out
 abbrev pub started_as : Job → (i : ℕ) → (joined : Bool) → (k : ℕ) → W.Worker

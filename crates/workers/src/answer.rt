@@ -1,6 +1,6 @@
 // What a call comes to, beside the new state.
 ghost use Rattle.std.specs.Prelude.{◌≡◌, []};
-ghost use Rattle.crew.specs.declared.outcome.Outcome.TheVariants.{Refused};
+ghost use Rattle.crew.specs.Outcomes.{Refused};
 
 use crew::{Outcome, Owed, Parcel, Record, Refusal};
 use std::alloc::Global;
@@ -30,9 +30,6 @@ impl Answer {
         ensures says { result.owed.says.items ≡ [] }
         ensures outcome { result.outcome ≡ Refused why }
     {
-        Answer {
-            owed: Owed::new(Vec::new(heap), Vec::new(heap)),
-            outcome: Outcome::Refused(why),
-        }
+        Answer::saying(heap, Vec::new(heap), Err(why))
     }
 }

@@ -5,7 +5,7 @@ use meaning::Letters;
 
 mod calls;
 
-// A slot for each worker that there may be.
+// A slot for each worker that there may be, so that the memory is the same whoever they are.
 #[derive(Drop)]
 pub(crate) struct Got {
     slots: Box<[Option<Letters>; 64]>,

@@ -12,11 +12,9 @@ use meaning::Round;
 pub(crate) fn last_joined(journal: &[Record]) -> Attempt
     ensures { result.0 ≡ last_joined 0 (records_of journal.now) }
 {
-    let mut last = Attempt(0);
-    for kept in journal {
-        last = joined_or(kept, last);
-    }
-    last
+    journal
+        .iter()
+        .fold(Attempt(0), |last, kept| joined_or(kept, last))
 }
 
 fn joined_or(kept: &Record, last: Attempt) -> Attempt
@@ -32,24 +30,18 @@ fn joined_or(kept: &Record, last: Attempt) -> Attempt
 pub(crate) fn checkpoint(journal: &[Record], round: Round) -> Option<&Share>
     ensures { option_map view_in result ≡ checkpoint_of round.0 (records_of journal.now) }
 {
-    let mut left = journal.len();
-    while left > 0 {
-        left -= 1;
-        if let Some(share) = checkpoint_in(&journal[left], round) {
-            return Some(share);
-        }
-    }
-    None
+    journal
+        .iter()
+        .rev()
+        .find_map(|kept| checkpoint_in(kept, round))
 }
 
 fn checkpoint_in(kept: &Record, round: Round) -> Option<&Share>
     ensures { option_map view_in result ≡ checkpoint_of round.0 (record_of kept.now ∷ []) }
 {
     match kept {
-        Record::Checkpoint { round: of, share } => {
-            if round.0 == of.0 { Some(share) } else { None }
-        }
-        Record::Joined { .. } => None,
+        Record::Checkpoint { round: of, share } if round == *of => Some(share),
+        _ => None,
     }
 }
 
@@ -57,24 +49,16 @@ fn checkpoint_in(kept: &Record, round: Round) -> Option<&Share>
 pub(crate) fn greatest_below(journal: &[Record], round: Round) -> Round
     ensures { result.0 ≡ greatest_below 0 round.0 (records_of journal.now) }
 {
-    let mut most = Round(0);
-    for kept in journal {
-        most = greater_or(kept, round, most);
-    }
-    most
+    journal
+        .iter()
+        .fold(Round(0), |most, kept| greater_or(kept, round, most))
 }
 
 fn greater_or(kept: &Record, round: Round, most: Round) -> Round
     ensures { result.0 ≡ greatest_below most.0 round.0 (record_of kept.now ∷ []) }
 {
     match kept {
-        Record::Checkpoint { round: of, .. } => {
-            if of.0 < round.0 {
-                Round(most.0.max(of.0))
-            } else {
-                most
-            }
-        }
-        Record::Joined { .. } => most,
+        Record::Checkpoint { round: of, .. } if *of < round => most.max(*of),
+        _ => most,
     }
 }

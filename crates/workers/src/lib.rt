@@ -4,10 +4,11 @@
 mod answer;
 mod got;
 mod history;
-mod places;
+mod letters;
+mod phase;
 mod saying;
 mod shares;
-mod work;
+mod station;
 mod worker;
 
 pub use answer::Answer;

@@ -5,7 +5,7 @@ ghost use Rattle.crew.specs.Worker.{to_foreman};
 ghost use Rattle.meaning.specs.Packets.{letters_of};
 ghost use Rattle.workers.specs.Saying.{batches_from};
 
-use crew::{Attempt, Kind, Line, Parcel};
+use crew::{Attempt, Batch, Kind, Line, Parcel};
 use meaning::{Letters, Round};
 use std::alloc::{AllocError, Global};
 
@@ -18,12 +18,11 @@ pub(crate) fn tell_foreman(
 ) -> Result<(), AllocError>
     ensures { OnOk result (parcels_of says.new.items ≡ parcels_of says.old.items ++ to_foreman me.0 (message_of kind []) ∷ []) }
 {
-    let letters = Letters::new(heap)?;
     says.push(Parcel {
         from: me,
         to: Line::FOREMAN,
         kind,
-        letters,
+        letters: Letters::new(heap)?,
     })?;
     Ok(())
 }
@@ -39,21 +38,20 @@ pub(crate) fn send_parts(
     requires { vec_len parts ≤ 64 }
     ensures { OnOk result (parcels_of says.new.items ≡ parcels_of says.old.items ++ batches_from me.0 attempt.0 round.0 0 (map letters_of parts.items)) }
 {
-    let mut to = 0;
-    for letters in parts {
-        let kind = Kind::Batch {
-            attempt,
-            round,
-            from: me,
-            to: Line(to),
-        };
-        says.push(Parcel {
-            from: me,
-            to: Line(to),
-            kind,
-            letters,
-        })?;
-        to += 1;
-    }
-    Ok(())
+    says.extend(
+        (0..64).zip(parts).map(|(to, letters)| {
+            let batch = Batch {
+                attempt,
+                round,
+                from: me,
+                to: Line(to),
+            };
+            Parcel {
+                from: batch.from,
+                to: batch.to,
+                kind: Kind::Batch(batch),
+                letters,
+            }
+        }),
+    )
 }

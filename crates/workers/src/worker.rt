@@ -1,15 +1,16 @@
 // A worker of a crew.
-ghost use Rattle.std.specs.Prelude.{◌≡◌, true, length};
-ghost use Rattle.packed.specs.Strings.{items};
-ghost use Rattle.rounds.specs.Sight.{Capped};
+ghost use Rattle.std.specs.Prelude.{◌≡◌, map, length};
 ghost use Rattle.rounds.specs.Work.{places_of};
+ghost use Rattle.rounds.specs.Yielding.{number};
 ghost use Rattle.workers.specs.Mine.{mine_of};
+ghost use Rattle.workers.specs.declared.phase.Phase.TheVariants.{Worked as IsWorked};
 
 use crate::got::Got;
-use crew::{Attempt, Line, Partition};
+use crate::phase::Phase;
+use crate::station::Station;
+use crew::Attempt;
 use meaning::{Inbox, Round};
-use packed::Strings;
-use rounds::Worked;
+use rounds::{Standing, Worked};
 
 mod calls;
 mod judges;
@@ -22,32 +23,22 @@ mod takes_go;
 mod ticks;
 mod works;
 
-// The table that all have, and its own places of it; the attempt, and whether it is in it; how many rounds are done and
-// what its places have after them; whether it has worked the next round, and what its places come to then; the batches
-// of that round that came; whether it was told that it is over; and the last round that it put by in this attempt.
+// What stays of it; where it is in its attempt; how many rounds are done and what its places have after them; what they
+// come to in the next, once it has worked it; the batches of that round that came; and the last round that it put by in
+// this attempt. What is worked lies beside the phase and not in it, since its memory serves round after round.
 #[derive(Drop)]
 pub struct Worker {
-    me: Line,
-    table: Partition,
-    mine: Vec<u32>,
-    joined: bool,
+    station: Station,
+    phase: Phase,
     attempt: Attempt,
     round: Round,
-    states: Strings,
-    rests: Vec<bool>,
+    standing: Standing,
     inbox: Inbox,
-    worked: bool,
     next: Worked,
     got: Got,
-    over: bool,
     latest: Option<Round>,
-    room: [u8; 256],
-    ghost owns: { mine.items ≡ mine_of table me.0 },
-    ghost known: { length (items states) ≡ length mine.items },
-    ghost told: { length rests.items ≡ length mine.items },
-    ghost fits: { Capped (items states) },
-    ghost beside: { places_of next ≡ table.places },
-    ghost next_known: { (worked ≡ true → length (items next.states) ≡ length mine.items) },
-    ghost next_told: { (worked ≡ true → length next.rests.items ≡ length mine.items) },
-    ghost next_fits: { (worked ≡ true → Capped (items next.states)) },
+    ghost owns: { map number station.mine.items ≡ mine_of station.table station.me.0 },
+    ghost known: { length standing.rests.items ≡ length station.mine.items },
+    ghost beside: { places_of next ≡ station.table.places },
+    ghost next_known: { (phase ≡ IsWorked → length next.standing.rests.items ≡ length station.mine.items) },
 }

@@ -1,5 +1,6 @@
 // What is done with the batches of a round.
-ghost use Rattle.std.specs.Prelude.{◌≡◌, ℕ, ◌<◌, ◌≤◌, length, take, is_some, IfOk, if◌then◌else◌, Some, nat_eq};
+ghost use Rattle.std.specs.Option.{option_map};
+ghost use Rattle.std.specs.Prelude.{◌≡◌, ℕ, ◌<◌, ◌≤◌, length, take, is_some, box_value, IfOk, if◌then◌else◌, Some, nat_eq};
 ghost use Rattle.crew.specs.Job.{all_below};
 ghost use Rattle.crew.specs.Worker.{letters_in, merged_below, nothing_got};
 ghost use Rattle.meaning.specs.Meaning.{none};
@@ -8,6 +9,7 @@ ghost use Rattle.workers.specs.Holding.{got_of};
 
 use crate::got::Got;
 use batches::merge_all;
+use crew::Partition;
 use meaning::Letters;
 use std::alloc::{AllocError, Global};
 
@@ -37,62 +39,40 @@ impl Got {
         self.slots[from as usize].is_some()
     }
 
-    // No letter came from that worker.
-    fn is_empty(&self, from: u8) -> bool
-        requires { from < 64 }
-        ensures { result ≡ none (letters_in (got_of self.now from)) }
+    // The slots of the workers that are there.
+    fn of(&self, table: &Partition) -> &[Option<Letters>]
+        ensures { result.now ≡ take table.now.workers (box_value self.now.slots) }
     {
-        match &self.slots[from as usize] {
-            Some(letters) => letters.len() == 0,
-            None => true,
-        }
+        &self.slots[..table.workers() as usize]
     }
 
-    // Is there a batch of each of so many workers.
-    pub(crate) fn has_all(&self, workers: u8) -> bool
-        requires { workers ≤ 64 }
-        ensures { result ≡ all_below workers (λ j. is_some (got_of self.now j)) }
+    // Is there a batch of each worker.
+    pub(crate) fn has_all(&self, table: &Partition) -> bool
+        ensures { result ≡ all_below table.now.workers (λ j. is_some (got_of self.now j)) }
     {
-        let mut left = workers;
-        while left > 0 {
-            left -= 1;
-            if !self.has(left) {
-                return false;
-            }
-        }
-        true
+        self.of(table).iter().all(|slot| slot.is_some())
     }
 
-    // No letter came from any of so many workers.
-    pub(crate) fn all_empty(&self, workers: u8) -> bool
-        requires { workers ≤ 64 }
-        ensures { result ≡ all_below workers (λ j. none (letters_in (got_of self.now j))) }
+    // No letter came from any worker.
+    pub(crate) fn all_empty(&self, table: &Partition) -> bool
+        ensures { result ≡ all_below table.now.workers (λ j. none (letters_in (got_of self.now j))) }
     {
-        let mut left = workers;
-        while left > 0 {
-            left -= 1;
-            if !self.is_empty(left) {
-                return false;
-            }
-        }
-        true
+        self.of(table).iter().all(|slot| has_no_letter(slot))
     }
 
-    // The letters of so many workers' batches, by rising senders.
-    pub(crate) fn merged(&self, heap: Global, workers: u8) -> Result<Letters, AllocError>
-        requires { workers ≤ 64 }
-        ensures { IfOk result (λ l. letters_of l ≡ merged_below (got_of self.now) workers) }
+    // The letters of all workers' batches, by rising senders.
+    pub(crate) fn merged(&self, heap: Global, table: &Partition) -> Result<Letters, AllocError>
+        ensures { IfOk result (λ l. letters_of l ≡ merged_below (got_of self.now) table.now.workers) }
     {
-        let all = &self.slots[..];
-        let some = front(all, workers as usize);
-        let letters = merge_all(heap, some)?;
-        Ok(letters)
+        merge_all(heap, self.of(table))
     }
 }
 
-fn front(slots: &[Option<Letters>], count: usize) -> &[Option<Letters>]
-    requires { count ≤ length slots.now }
-    ensures { result.now ≡ take count slots.now }
+fn has_no_letter(slot: &Option<Letters>) -> bool
+    ensures { result ≡ none (letters_in (option_map letters_of slot.now)) }
 {
-    &slots[0..count]
+    match slot {
+        Some(letters) => letters.len() == 0,
+        None => true,
+    }
 }

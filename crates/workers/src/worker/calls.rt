@@ -25,51 +25,41 @@ impl Worker {
     pub fn is_joined(&self) -> bool
         ensures { result ≡ (worker_of self.now).joined }
     {
-        self.joined
+        self.phase.is_in()
     }
 
     // Was it told that it is over.
     pub fn is_over(&self) -> bool
         ensures { result ≡ (worker_of self.now).over }
     {
-        self.over
+        self.phase.is_over()
     }
 
     // How many places it has.
     pub fn places(&self) -> usize
         ensures { result ≡ length (share_in self.now).states }
     {
-        self.mine.len()
+        self.standing.len()
     }
 
     // Its place k, by rising number.
     pub fn place(&self, k: usize) -> Option<Place>
-        ensures { MatchOption result (length (mine_of self.now.table self.now.me.0) ≤ k) (λ p. (k < length (mine_of self.now.table self.now.me.0)) × (p.0 ≡ slice_index (mine_of self.now.table self.now.me.0) k)) }
+        ensures { MatchOption result (length (mine_of self.now.station.table self.now.station.me.0) ≤ k) (λ p. (k < length (mine_of self.now.station.table self.now.station.me.0)) × (p.0 ≡ slice_index (mine_of self.now.station.table self.now.station.me.0) k)) }
     {
-        place_at(self.mine.as_slice(), k)
+        self.station.mine.get(k).copied()
     }
 
     // The state of its place k.
     pub fn state(&self, k: usize) -> Option<&[u8]>
         ensures { MatchOption result (length (share_in self.now).states ≤ k) (λ s. (k < length (share_in self.now).states) × (s.now ≡ slice_index_or (share_in self.now).states k [])) }
     {
-        self.states.get(k)
+        self.standing.states.get(k)
     }
 
     // Does its place k rest.
     pub fn rests(&self, k: usize) -> bool
         ensures { result ≡ slice_index_or (share_in self.now).rests k false }
     {
-        k < self.rests.len() && self.rests[k]
-    }
-}
-
-fn place_at(mine: &[u32], k: usize) -> Option<Place>
-    ensures { MatchOption result (length mine.now ≤ k) (λ p. (k < length mine.now) × (p.0 ≡ slice_index mine.now k)) }
-{
-    if k < mine.len() {
-        Some(Place(mine[k]))
-    } else {
-        None
+        self.standing.rests.get(k).copied().unwrap_or(false)
     }
 }

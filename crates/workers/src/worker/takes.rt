@@ -22,35 +22,16 @@ impl Worker {
         kind: Kind,
         letters: &Letters,
     ) -> Result<Answer, AllocError>
-        ensures same { (self.new.me ≡ self.old.me) × (self.new.table ≡ self.old.table) }
-        ensures replied { IfOk result (λ a. Replied (took (job_in self.old (P.Plan.program plan.now)) self.old.me.0 (records_of journal.now) (worker_of self.old) line.0 (message_of kind (letters_of letters.now))) self.new a) }
+        ensures same { self.new.station ≡ self.old.station }
+        ensures replied { IfOk result (λ a. Replied (took (job_in self.old (P.Plan.program plan.now)) self.old.station.me.0 (records_of journal.now) (worker_of self.old) line.0 (message_of kind (letters_of letters.now))) self.new a) }
     {
         match kind {
-            Kind::Batch {
-                attempt,
-                round,
-                from,
-                to,
-            } => {
-                let batch = self.take_batch(heap, line, attempt, round, from, to, letters)?;
-                Ok(batch)
+            Kind::Batch(batch) => self.take_batch(heap, line, batch, letters),
+            Kind::Go(go) => self.take_go(heap, line, go),
+            Kind::Anew(anew) => self.take_anew(heap, plan, journal, line, anew),
+            Kind::Ready(_) | Kind::PutBy(_) | Kind::Hello(_) => {
+                Ok(Answer::refusing(heap, Refusal::Malformed))
             }
-            Kind::Go {
-                attempt,
-                round,
-                noted,
-                over,
-            } => {
-                let go = self.take_go(heap, line, attempt, round, over)?;
-                Ok(go)
-            }
-            Kind::Anew { attempt, round } => {
-                let anew = self.take_anew(heap, plan, journal, line, attempt, round)?;
-                Ok(anew)
-            }
-            Kind::Ready { .. } => Ok(Answer::refusing(heap, Refusal::Malformed)),
-            Kind::PutBy { .. } => Ok(Answer::refusing(heap, Refusal::Malformed)),
-            Kind::Hello { .. } => Ok(Answer::refusing(heap, Refusal::Malformed)),
         }
     }
 }

@@ -1,7 +1,7 @@
 // A batch comes.
 ghost use Rattle.std.specs.Prelude.{◌≡◌, ℕ, ◌<◌, ◌≤◌, List, IfOk};
 ghost use Rattle.crew.specs.Journals.{Record as Kept};
-ghost use Rattle.crew.specs.Messages.{Batch};
+ghost use Rattle.crew.specs.Messages as M;
 ghost use Rattle.crew.specs.Worker.{took};
 ghost use Rattle.meaning.specs.Meaning.{Program};
 ghost use Rattle.meaning.specs.Packets.{letters_of};
@@ -9,9 +9,8 @@ ghost use Rattle.workers.specs.Crewed.{Replied, batch_taken, job_in, worker_of};
 
 use crate::answer::Answer;
 use crate::worker::Worker;
-use batches::copy;
-use crew::{Attempt, Line, Outcome};
-use meaning::{Letters, Round};
+use crew::{Batch, Line};
+use meaning::Letters;
 use std::alloc::{AllocError, Global};
 
 impl Worker {
@@ -19,21 +18,15 @@ impl Worker {
         &mut self,
         heap: Global,
         line: Line,
-        attempt: Attempt,
-        round: Round,
-        from: Line,
-        to: Line,
+        batch: Batch,
         letters: &Letters,
     ) -> Result<Answer, AllocError>
-        ensures same { (self.new.me ≡ self.old.me) × (self.new.table ≡ self.old.table) }
-        ensures replied { IfOk result (λ a. (q : Program) (js : List Kept) → Replied (took (job_in self.old q) self.old.me.0 js (worker_of self.old) line.0 (Batch attempt.0 round.0 from.0 to.0 (letters_of letters.now))) self.new a) }
+        ensures same { self.new.station ≡ self.old.station }
+        ensures replied { IfOk result (λ a. (q : Program) (js : List Kept) → Replied (took (job_in self.old q) self.old.station.me.0 js (worker_of self.old) line.0 (M.Batch batch.attempt.0 batch.round.0 batch.from.0 batch.to.0 (letters_of letters.now))) self.new a) }
     {
-        match self.judge_batch(line, attempt, round, from, to, letters) {
-            Outcome::Refused(why) => Ok(Answer::refusing(heap, why)),
-            Outcome::Taken => {
-                let answer = self.put_batch(heap, line, letters)?;
-                Ok(answer)
-            }
+        match self.judge_batch(line, batch, letters) {
+            Err(why) => Ok(Answer::refusing(heap, why)),
+            Ok(()) => self.put_batch(heap, line, letters),
         }
     }
 
@@ -44,14 +37,13 @@ impl Worker {
         line: Line,
         letters: &Letters,
     ) -> Result<Answer, AllocError>
-        requires { line.0 < self.old.table.workers }
-        ensures same { (self.new.me ≡ self.old.me) × (self.new.table ≡ self.old.table) }
-        ensures replied { IfOk result (λ a. (q : Program) → Replied (batch_taken (job_in self.old q) self.old.me.0 (worker_of self.old) line.0 (letters_of letters.now)) self.new a) }
+        requires { line.0 < self.old.station.table.workers }
+        ensures same { self.new.station ≡ self.old.station }
+        ensures replied { IfOk result (λ a. (q : Program) → Replied (batch_taken (job_in self.old q) self.old.station.me.0 (worker_of self.old) line.0 (letters_of letters.now)) self.new a) }
     {
-        let batch = copy(heap, letters)?;
-        self.got.put(line.0, batch);
+        self.got.put(line.0, letters.clone()?);
         let mut says = Vec::new(heap);
         self.say_ready(heap, &mut says)?;
-        Ok(Answer::saying(heap, says, Outcome::Taken))
+        Ok(Answer::saying(heap, says, Ok(())))
     }
 }

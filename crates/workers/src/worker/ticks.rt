@@ -6,14 +6,13 @@ ghost use Rattle.workers.specs.Crewed.{Replied, job_in, worker_of};
 
 use crate::answer::Answer;
 use crate::worker::Worker;
-use crew::Outcome;
 use std::alloc::{AllocError, Global};
 
 impl Worker {
     pub fn tick(&self, heap: Global) -> Result<Answer, AllocError>
-        ensures { IfOk result (λ a. (q : Program) → Replied (ticked (job_in self.now q) self.now.me.0 (worker_of self.now)) self.now a) }
+        ensures { IfOk result (λ a. (q : Program) → Replied (ticked (job_in self.now q) self.now.station.me.0 (worker_of self.now)) self.now a) }
     {
         let says = self.all_said(heap)?;
-        Ok(Answer::saying(heap, says, Outcome::Taken))
+        Ok(Answer::saying(heap, says, Ok(())))
     }
 }

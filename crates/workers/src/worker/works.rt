@@ -1,63 +1,52 @@
 // Work: a round of its places, in memory beside.
-ghost use Rattle.std.specs.Prelude.{◌≡◌, ℕ, ◌<◌, ◌≤◌, IfOk, OnOk};
+ghost use Rattle.std.specs.Prelude.{◌≡◌, ℕ, ◌<◌, ◌≤◌, true, IfOk, OnOk};
 ghost use Rattle.crew.specs.Worker.{is_idle, with_worked, works};
 ghost use Rattle.workers.specs.Crewed.{Replied, job_in, worker_of};
+ghost use Rattle.workers.specs.declared.phase.Phase.TheVariants.{Idle};
 
 use crate::answer::Answer;
-use crate::work::work_places;
+use crate::phase::Phase;
 use crate::worker::Worker;
-use crew::{Outcome, Refusal};
+use crew::{ROUNDS, Refusal};
 use meaning::Plan;
 use std::alloc::{AllocError, Global};
-
-// Rounds are done up to that many.
-const ROUNDS: u32 = (1 << 31) - 1;
 
 impl Worker {
     // Is it in a round that it hasn't worked.
     fn is_idle(&self) -> bool
-        ensures { result ≡ is_idle (worker_of self.now) }
+        ensures idle { result ≡ is_idle (worker_of self.now) }
+        ensures phase { result ≡ true → self.now.phase ≡ Idle }
     {
-        self.joined && !self.over && !self.worked
+        self.phase == Phase::Idle
     }
 
     // Does the next round for its places, and says the batches of it.
     pub fn work<P: Plan>(&mut self, heap: Global, plan: &P) -> Result<Answer, AllocError>
-        ensures same { (self.new.me ≡ self.old.me) × (self.new.table ≡ self.old.table) }
-        ensures replied { IfOk result (λ a. Replied (works (job_in self.old (P.Plan.program plan.now)) self.old.me.0 (worker_of self.old)) self.new a) }
+        ensures same { self.new.station ≡ self.old.station }
+        ensures replied { IfOk result (λ a. Replied (works (job_in self.old (P.Plan.program plan.now)) self.old.station.me.0 (worker_of self.old)) self.new a) }
     {
         if !self.is_idle() {
-            return Ok(Answer::saying(heap, Vec::new(heap), Outcome::Taken));
+            return Ok(Answer::saying(heap, Vec::new(heap), Ok(())));
         }
         if self.round.0 >= ROUNDS {
-            let outcome = Outcome::Refused(Refusal::UsedUp);
-            return Ok(Answer::saying(heap, Vec::new(heap), outcome));
+            return Ok(Answer::refusing(heap, Refusal::UsedUp));
         }
         self.do_round(plan)?;
         let mut says = Vec::new(heap);
         self.say_batches(heap, &mut says)?;
         self.say_ready(heap, &mut says)?;
-        Ok(Answer::saying(heap, says, Outcome::Taken))
+        Ok(Answer::saying(heap, says, Ok(())))
     }
 
     fn do_round<P: Plan>(&mut self, plan: &P) -> Result<(), AllocError>
-        ensures same { (self.new.me ≡ self.old.me) × (self.new.table ≡ self.old.table) }
-        ensures worked { OnOk result (worker_of self.new ≡ with_worked (job_in self.old (P.Plan.program plan.now)) self.old.me.0 (worker_of self.old)) }
+        requires { self.old.phase ≡ Idle }
+        ensures same { self.new.station ≡ self.old.station }
+        ensures worked { OnOk result (worker_of self.new ≡ with_worked (job_in self.old (P.Plan.program plan.now)) self.old.station.me.0 (worker_of self.old)) }
     {
-        self.worked = false;
-        self.next.clear();
-        work_places(
-            &mut self.next,
-            plan,
-            &self.table,
-            self.round,
-            self.mine.as_slice(),
-            &self.states,
-            self.rests.as_slice(),
-            &self.inbox,
-            &mut self.room,
-        )?;
-        self.worked = true;
+        let mine = self.station.mine.iter().copied();
+        self.next
+            .work(plan, self.round, mine, &self.standing, &self.inbox)?;
+        self.phase = Phase::Worked;
         Ok(())
     }
 }

@@ -1,22 +1,20 @@
-use Rattle.std.proofs.Common.{◌≡◌, ◌+◌, ◌≤◌, ◌∷◌, length, drop, sym, ap, ◌∙◌, arith}
-use Rattle.std.proofs.lemmas.List.{drop_more, drop_all}
+use Rattle.std.proofs.Common.{◌≡◌, List, [], ◌∷◌, rules, refl, sym, ap, ◌∙◌}
+use Rattle.std.proofs.lemmas.Fn.{fold_over, fronts}
+use Rattle.std.proofs.lemmas.Iterator.{YieldsList-from_slice}
 use Rattle.crew.specs.Journals.{greatest_below}
 use Rattle.crew.specs.Stored.{record_of, records_of}
-use Rattle.workers.proofs.Records.{greatest_first}
+use Rattle.crew.specs.declared.journal.Record.{Record}
+use Rattle.meaning.specs.declared.numbers.Round.{Round}
+use Rattle.std.proofs.lemmas.List.{map_push}
+use Rattle.workers.proofs.Records.{greatest_last}
 use Rattle.workers.proofs.history.greatest_below.Goals as goal
 
-pub loop-kept-preserved : goal.loop-kept-preserved
-loop-kept-preserved c =
-    let x = c.kept-item.result in
-    let js = c.args.journal.now in
-    let k = c.loop-kept.kept-index in
-    let r = c.args.round.0 in
-    let old = c.loop-kept.most.0 in
-    let split : drop k js ≡ x ∷ drop (k + 1) js = drop_more js k x c.loop-kept-test.true ∙ ap (λ y. y ∷ drop (k + 1) js) (sym c.kept-item.is) in
-    ap (λ n. greatest_below n r (records_of (drop (k + 1) js))) c.greater_or-most.ensures
-    ∙ sym (greatest_first old r (record_of x) (records_of (drop (k + 1) js)))
-    ∙ ap (λ l. greatest_below old r (records_of l)) (sym split)
-    ∙ c.loop-kept.invariant
-
 pub returns : goal.returns
-returns c = sym (ap (λ l. greatest_below c.loop-kept.most.0 c.args.round.0 (records_of l)) (drop_all c.loop-kept.kept-index c.args.journal.now (let z : length c.args.journal.now ≤ c.loop-kept.kept-index = omega arith in z))) ∙ c.loop-kept.invariant
+returns c =
+    fold_over fronts (λ y. y.now) _ (λ (ys : List Record) (a : Round). a.0 ≡ greatest_below 0 c.args.round.0 (records_of ys)) _
+    (λ ys a x b f h k.
+    let e : b.0 ≡ greatest_below a.0 c.args.round.0 (record_of x.now ∷ []) = search rules in (
+      e ∙ ap (λ n. greatest_below n c.args.round.0 (record_of x.now ∷ [])) h ∙ sym (ap (greatest_below 0 c.args.round.0) (map_push record_of ys x.now) ∙ greatest_last 0 c.args.round.0 (records_of ys) (record_of x.now)),
+      search rules,
+    ))
+    c.iter.result c.args.journal.now _ _ (YieldsList-from_slice {s = c.iter.result} c.args.journal.now cc).runs refl c.fold.ensures.ran

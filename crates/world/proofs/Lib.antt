@@ -1,5 +1,4 @@
-pub mod Sitting
-pub mod Pacing
+pub mod Calling
 pub mod Seating
 pub mod Staging
 pub mod Looking

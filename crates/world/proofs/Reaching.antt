@@ -9,7 +9,7 @@ use Rattle.runs.proofs.Leading.{led_fresh, led_up, led_tick, led_work, led_crash
 use Rattle.runs.specs.Crew.{Crew, Led, fresh}
 use Rattle.world.specs.Events.{happened}
 use Rattle.world.specs.Looks.{Reached}
-use Rattle.world.specs.Staged.{crew_of}
+use Rattle.world.specs.Staged.{Leads, crew_of}
 use Rattle.world.specs.declared.event.Event.{Event}
 use Rattle.world.specs.declared.event.Event.TheVariants.{Up, Tick, Work, Crash, Give, Twice, Lose, Late}
 use Rattle.world.specs.declared.state.State.{State}
@@ -24,13 +24,10 @@ led_happened b Twice s = led_doubled b s
 led_happened b Lose s = led_lost b s
 led_happened b (Late k) s = led_delayed b k s
 
-pub reach_happened : (q : Program) (s t : State) (e : Event) → crew_of t ≡ happened (job_of s.table q) e (crew_of s) → t.table ≡ s.table → Reached q s → Reached q t
-reach_happened q s t e leads same h =
-    subst (λ (p : Partition). Led (job_of p q) (crew_of t)) (sym same) (subst (Led (job_of s.table q)) (sym leads) (led_happened (job_of s.table q) e (crew_of s) h))
+pub reach_happened : (q : Program) (e : Event) (s t : State) → Leads (happened (job_of s.table q) e) s t → Reached q s → Reached q t
+reach_happened q e s t leads h =
+    let b = job_of s.table q in
+    subst (λ (p : Partition). Led (job_of p q) (crew_of t)) (sym leads.table) (subst (Led b) (sym leads.crew) (led_happened b e (crew_of s) h))
 
 pub reach_fresh : (q : Program) (s : State) → crew_of s ≡ fresh → Reached q s
 reach_fresh q s e = subst (Led (job_of s.table q)) (sym e) (led_fresh (job_of s.table q))
-
--- the same crew of the same plan
-pub reached_same : {P : Type 0} (means : P → Program) (p r : P) (s t : State) → r ≡ p → t ≡ s → Reached (means p) s → Reached (means r) t
-reached_same means p r s t plan state h = subst (λ x. Reached (means x) t) (sym plan) (subst (Reached (means p)) (sym state) h)

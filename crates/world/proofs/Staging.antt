@@ -1,67 +1,64 @@
--- A machine's call, and what it says put behind what is under way, are an event of the crew.
+-- Calls and what befalls the message that is due next are events of the crew.
 -- Assumes nothing.
-use Rattle.std.proofs.Common.{◌≡◌, ℕ, ◌<◌, min, true, false, ltb, List, [], ◌∷◌, ◌++◌, length, get_or, take, drop, Some, None, vec_items, deque_items, Vec, sym, refl, ap, ◌∙◌, ⊎_elim, arith}
-use Rattle.std.proofs.lemmas.List.{drop_all, drop-map, map-append, take_all, take-map}
-use Rattle.std.proofs.lemmas.Bool.{cases_lt, lt-ltb, true≢false}
+use Rattle.std.proofs.Common.{◌≡◌, ℕ, ◌<◌, min, false, cond, nat_eq, nat_lt, ◌==◌, List, ◌∷◌, ◌++◌, length, get_or, set, take, drop, None, Ok, Err, Result, OnOk, is_ok, if◌then◌else◌, vec_items, deque_items, ap, sym, ◌∙◌}
+use Rattle.std.proofs.lemmas.List.{drop-map, drop_min, map-append, take-map, take_min}
+use Rattle.std.proofs.lemmas.Bool.{lt-ltb}
 use Rattle.std.specs.List.{insert}
-use Rattle.std.specs.declared.alloc.Global.{Global}
-use Rattle.crew.specs.Foreman as F
+use Rattle.std.specs.Option.{option_map}
 use Rattle.crew.specs.Job.{Job}
-use Rattle.crew.specs.Journals.{Note}
+use Rattle.crew.specs.Journals as J
 use Rattle.crew.specs.Messages as M
-use Rattle.crew.specs.Stored.{message_of, parcel_of, parcels_of}
-use Rattle.meaning.specs.Packets.{letters_of}
-use Rattle.meaning.specs.declared.letters.Letters.{Letters}
+use Rattle.crew.specs.Messages.{foreman_line}
+use Rattle.crew.specs.Worker as W
+use Rattle.crew.specs.Stored.{parcel_of, parcels_of, records_of}
 use Rattle.crew.specs.declared.message.Parcel.{Parcel}
-use Rattle.runs.specs.Crew.{doubled, doubled_of, foreman_acts, handed, worker_acts, behind as behind_of}
-use Rattle.runs.specs.World.{Call, Machine}
-use Rattle.world.specs.Paced.{Led, desk_of}
-use Rattle.world.specs.Seated.{seat_at}
-use Rattle.world.specs.Staged.{Moved, crew_of, due_to}
-use Rattle.world.specs.declared.seat.Seat.{Seat}
+use Rattle.runs.specs.Crew.{acts, with_underway, worker_acts, worker_falls, behind as behind_of}
+use Rattle.runs.specs.World.{Call, Effect, after, put, worker_call}
+use Rattle.workers.specs.Crewed.{worker_of}
+use Rattle.world.specs.Paced.{desk_of}
+use Rattle.world.specs.Seated.{Did, Seat, seat_at, seat_of}
+use Rattle.world.specs.Staged.{Told, crew_of}
 use Rattle.world.specs.declared.state.State.{State}
-
-behind : (old new : List Parcel) (says : List Parcel) (ps : List M.Parcel) → new ≡ old ++ says → parcels_of says ≡ ps → parcels_of new ≡ parcels_of old ++ ps
-behind old new says ps e f = ap parcels_of e ∙ map-append parcel_of old says ∙ ap (λ l. parcels_of old ++ l) f
-
-pub worker_acted : (b : Job) (c : Call) (s : State) (ys : List Seat) (new : List Parcel) (i : ℕ) (says : Vec Parcel Global) → Moved b i c (vec_items s.seats) ys (parcels_of (vec_items says)) → new ≡ deque_items s.underway ++ vec_items says →
-    record { worker = seat_at ys; foreman = desk_of s.desk; underway = parcels_of new } ≡ worker_acts b i c (crew_of s).underway (crew_of s)
-worker_acted b c s ys new i says m e = λ k. record { worker = m.workers k; foreman = desk_of s.desk; underway = behind (deque_items s.underway) new (vec_items says) _ e m.says k }
-
-pub foreman_acted : (b : Job) (c : Call) (s : State) (d : Machine F.Foreman Note) (new : List Parcel) (says : Vec Parcel Global) → Led b.workers c (desk_of s.desk) d (parcels_of (vec_items says)) → new ≡ deque_items s.underway ++ vec_items says →
-    record { worker = seat_at (vec_items s.seats); foreman = d; underway = parcels_of new } ≡ foreman_acts b c (crew_of s).underway (crew_of s)
-foreman_acted b c s d new says l e = λ k. record { worker = seat_at (vec_items s.seats); foreman = l.machine b refl k; underway = behind (deque_items s.underway) new (vec_items says) _ e (l.says b refl) k }
-
--- WHAT IS UNDER WAY
-
-cut_short : {X : Type 0} (k : ℕ) (xs : List X) → (take (min k (length xs)) xs ≡ take k xs) × (drop (min k (length xs)) xs ≡ drop k xs)
-cut_short k xs =
-    ⊎_elim
-    (λ lt. (let e : min k (length xs) ≡ k = omega arith in (ap (λ n. take n xs) e, ap (λ n. drop n xs) e)))
-    (λ ge. (let e : min k (length xs) ≡ length xs = omega arith in (ap (λ n. take n xs) e ∙ take_all (length xs) xs (omega arith) ∙ sym (take_all k xs ge), ap (λ n. drop n xs) e ∙ drop_all (length xs) xs (omega arith) ∙ sym (drop_all k xs ge))))
-    (cases_lt k (length xs))
+use Rattle.world.proofs.Seating.{in_seat, seat_at-set}
 
 pub late_behind : (old rest new : List Parcel) (p : Parcel) (k place : ℕ) → old ≡ p ∷ rest → place ≡ min k (length rest) → new ≡ insert rest place p → parcels_of new ≡ behind_of k (parcels_of old)
 late_behind old rest new p k place e at is =
-    ap parcels_of (is ∙ ap (λ n. take n rest ++ p ∷ drop n rest) at ∙ (λ i. (cut_short k rest).0 i ++ p ∷ (cut_short k rest).1 i))
+    ap parcels_of (is ∙ ap (λ n. take n rest ++ p ∷ drop n rest) at ∙ (λ i. take_min k rest i ++ p ∷ drop_min k rest i))
     ∙ map-append parcel_of (take k rest) (p ∷ drop k rest)
     ∙ (λ i. sym (take-map parcel_of k rest) i ++ parcel_of p ∷ sym (drop-map parcel_of k rest) i)
     ∙ ap (λ l. behind_of k (parcels_of l)) (sym e)
 
-pub doubled_handed : (b : Job) (s : State) (rest again : List Parcel) (p : Parcel) (ls : Letters) → deque_items s.underway ≡ p ∷ rest → again ≡ rest ++ record { from = p.from; to = p.to; kind = p.kind; letters = ls } ∷ [] → letters_of ls ≡ letters_of p.letters →
-    handed b (parcel_of p) (parcels_of again) (record { worker = seat_at (vec_items s.seats); foreman = desk_of s.desk; underway = parcels_of again }) ≡ doubled b (crew_of s)
-doubled_handed b s rest again p ls e f same =
-    let copy : parcel_of (record { from = p.from; to = p.to; kind = p.kind; letters = ls }) ≡ parcel_of p = λ k. record { from = p.from.0; to = p.to.0; message = message_of p.kind (same k) } in
-    let queue : parcels_of again ≡ parcels_of rest ++ parcel_of p ∷ [] = ap parcels_of f ∙ map-append parcel_of rest _ ∙ ap (λ z. parcels_of rest ++ z ∷ []) copy in
-    ap (λ l. handed b (parcel_of p) l (crew_of s)) queue ∙ ap (λ l. doubled_of b (parcels_of l) (crew_of s)) (sym e)
+-- WHO ACTS
 
-pub due_some : (ps : List Parcel) (p : Parcel) (n : ℕ) → n ≡ length ps → true ≡ ltb 0 n → p ≡ get_or ps 0 p → Some p.to.0 ≡ due_to (parcels_of ps)
-due_some [] p n e t is = absurd (true≢false (t ∙ ap (ltb 0) e))
-due_some (x ∷ ps) p n e t is = ap (λ (z : Parcel). Some z.to.0) is
+pub at_worker : {X : Type 0} (j n : ℕ) (f w s : X) → false ≡ nat_eq j 64 → j < n → w ≡ cond (j == foreman_line) f (cond (nat_lt j n) w s)
+at_worker j n f w s other lt = λ k. cond (other k) f (cond (sym (lt-ltb j n lt) k) w s)
 
-pub due_none : (ps : List Parcel) (n : ℕ) → n ≡ length ps → false ≡ ltb 0 n → None ≡ due_to (parcels_of ps)
-due_none [] n e f = refl
-due_none (x ∷ ps) n e f = let z : 0 < length (x ∷ ps) = length_some x ps in absurd (true≢false (sym (lt-ltb 0 (length (x ∷ ps)) z) ∙ sym (f ∙ ap (ltb 0) e)))
-  where
-    length_some : (y : Parcel) (ys : List Parcel) → 0 < length (y ∷ ys)
-    length_some y ys = omega arith
+-- the worker in seat i made a call, and says this behind ps
+pub worker_told : (b : Job) (c : Call) (s : State) (i : ℕ) (x y : Seat) (ps says : List M.Parcel) → i < length (vec_items s.seats) → x ≡ get_or (vec_items s.seats) i x → Did b i c (seat_of x) (seat_of y) says →
+    record { worker = seat_at (set (vec_items s.seats) i y); foreman = desk_of s.desk; underway = ps ++ says } ≡ worker_acts b i c ps (crew_of s)
+worker_told b c s i x y ps says lt is did =
+    let xs = vec_items s.seats in
+    let here : seat_of x ≡ seat_at xs i = ap seat_of is ∙ sym (in_seat xs i x lt) in
+    let effect : worker_call b i c (seat_of x).journal (seat_of x).up ≡ worker_call b i c (seat_at xs i).journal (seat_at xs i).up = λ k. worker_call b i c (here k).journal (here k).up in
+    let new : seat_of y ≡ after (seat_at xs i) (worker_call b i c (seat_at xs i).journal (seat_at xs i).up) = did.machine ∙ (λ k. after (here k) (effect k)) in
+    λ k. record { worker = (seat_at-set xs i y lt ∙ ap (λ m. put i m (seat_at xs)) new) k; foreman = desk_of s.desk; underway = ps ++ (did.says ∙ ap (λ (e : Effect W.Worker J.Record). e.says) effect) k }
+
+-- the worker in seat i crashed
+pub worker_fell : (s : State) (i : ℕ) (x y : Seat) → i < length (vec_items s.seats) → x ≡ get_or (vec_items s.seats) i x → y.up ≡ None → y.journal ≡ x.journal →
+    record { worker = seat_at (set (vec_items s.seats) i y); foreman = desk_of s.desk; underway = (crew_of s).underway } ≡ worker_falls i (crew_of s)
+worker_fell s i x y lt is down journal =
+    let xs = vec_items s.seats in
+    let here : seat_of x ≡ seat_at xs i = ap seat_of is ∙ sym (in_seat xs i x lt) in
+    let new : seat_of y ≡ record { up = None; journal = (seat_at xs i).journal } = (λ k. record { up = option_map worker_of (down k); journal = records_of (vec_items (journal k).records) }) ∙ (λ k. record { up = None; journal = (here k).journal }) in
+    λ k. record { worker = (seat_at-set xs i y lt ∙ ap (λ m. put i m (seat_at xs)) new) k; foreman = desk_of s.desk; underway = (crew_of s).underway }
+
+-- what was said is under way
+pub said_behind : (b : Job) (j : ℕ) (c : Call) (s t : State) (old new says : List Parcel) → Told b j c s t (parcels_of says) → old ≡ deque_items t.underway → new ≡ old ++ says →
+    with_underway (crew_of t) (parcels_of new) ≡ acts b j c (crew_of s).underway (crew_of s)
+said_behind b j c s t old new says told was is =
+    ap (with_underway (crew_of t)) (ap parcels_of is ∙ map-append parcel_of old says ∙ ap (λ l. parcels_of l ++ parcels_of says) (was ∙ told.underway))
+    ∙ told.crew (crew_of s).underway
+
+pub on_ok_if : {X E A : Type 0} (r : Result X E) (x a b : A) → x ≡ (if is_ok r then a else b) → OnOk r (x ≡ a)
+on_ok_if (Ok v) x a b e = e
+on_ok_if (Err v) x a b e = tt

@@ -1,5 +1,6 @@
-pub mod Steps
+pub mod Calls
 pub mod Events
+pub mod Machines
 pub mod Seated
 pub mod Paced
 pub mod Staged

@@ -1,29 +1,26 @@
--- The foreman's desk as the model has it.
+-- The foreman's machine as the model has it.
 -- Assumes nothing.
-use Rattle.std.specs.Prelude.{◌≡◌, ℕ, List, Some, None, vec_items, Option}
-use Rattle.std.specs.Option.{option_map}
+use Rattle.std.specs.Prelude.{◌≡◌, ℕ, List, Option}
+use Rattle.std.specs.Option.{ForSome}
 use Rattle.crew.specs.Foreman as F
 use Rattle.crew.specs.Job.{Job}
-use Rattle.crew.specs.Journals.{Note}
+use Rattle.crew.specs.Journals as J
 use Rattle.crew.specs.Messages.{Parcel}
 use Rattle.crew.specs.Paced.{foreman_of}
-use Rattle.crew.specs.Stored.{notes_of}
+use Rattle.crew.specs.Stored.{note_of}
 use Rattle.crew.specs.declared.foreman.Foreman.{Foreman}
-use Rattle.runs.specs.World.{Machine, Call, after, foreman_call}
-use Rattle.world.specs.declared.desk.Desk.{Desk}
+use Rattle.crew.specs.declared.journal.Note.{Note}
+use Rattle.runs.specs.World as world
+use Rattle.world.specs.Machines.{Came, machine_of}
+use Rattle.world.specs.declared.machine.Machine.{Machine}
 
-abbrev pub desk_of : Desk → Machine F.Foreman Note
-desk_of d = record { up = option_map foreman_of d.foreman; journal = notes_of (vec_items d.notes.records) }
+abbrev pub desk_of : Machine Foreman Note → world.Machine F.Foreman J.Note
+desk_of = machine_of foreman_of note_of
 
--- who sits here, if anybody, has so many workers
-abbrev pub workers_in : (m : ℕ) → Option Foreman → ℕ
-workers_in m None = m
-workers_in m (Some f) = f.workers
-
+-- the foreman, where it is up, has so many workers
 abbrev pub Heads : (m : ℕ) → Option Foreman → Type 0
-Heads m o = workers_in m o ≡ m
+Heads m o = ForSome o (λ f. f.workers ≡ m)
 
--- a call was made by a foreman of so many workers, and this is what is to be said
-pub record Led (m : ℕ) (c : Call) (x y : Machine F.Foreman Note) (ps : List Parcel) : Type 0 where
-  pub machine : (b : Job) → b.workers ≡ m → y ≡ after x (foreman_call b c x.journal x.up)
-  pub says : (b : Job) → b.workers ≡ m → ps ≡ (foreman_call b c x.journal x.up).says
+-- a call was made by the foreman, and this is what is to be said
+abbrev pub Led : Job → world.Call → (x y : world.Machine F.Foreman J.Note) → List Parcel → Type 0
+Led b c x y = Came (world.foreman_call b c x.journal x.up) x y

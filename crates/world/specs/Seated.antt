@@ -1,68 +1,53 @@
--- A worker's seat as the model has it.
+-- The workers' machines as the model has them.
 -- Assumes nothing.
-use Rattle.std.specs.Prelude.{◌≡◌, ℕ, ◌<◌, List, [], ◌∷◌, map, length, get_or, Some, None, vec_items, Option, slice_index, slice_index_or}
-use Rattle.std.specs.Option.{option_map}
+use Rattle.std.specs.Prelude.{◌≡◌, ℕ, List, [], map, None, vec_items, Option, slice_index_or}
+use Rattle.std.specs.Option.{ForSome}
 use Rattle.crew.specs.Job.{Job}
-use Rattle.crew.specs.Journals.{Record}
+use Rattle.crew.specs.Journals as J
 use Rattle.crew.specs.Messages.{Parcel}
-use Rattle.crew.specs.Stored.{records_of}
+use Rattle.crew.specs.Stored.{record_of}
 use Rattle.crew.specs.Worker as W
+use Rattle.crew.specs.declared.journal.Record.{Record}
 use Rattle.crew.specs.declared.partition.Partition.{Partition}
-use Rattle.runs.specs.World.{Machine, Call, after, worker_call}
+use Rattle.runs.specs.World as world
 use Rattle.workers.specs.Crewed.{worker_of}
 use Rattle.workers.specs.declared.worker.Worker.{Worker}
-use Rattle.world.specs.declared.seat.Seat.{Seat}
+use Rattle.world.specs.Machines.{Came, machine_of}
+use Rattle.world.specs.declared.machine.Machine.{Machine}
 
-abbrev pub seat_of : Seat → Machine W.Worker Record
-seat_of s = record { up = option_map worker_of s.worker; journal = records_of (vec_items s.journal.records) }
+abbrev pub Seat : Type 0
+Seat = Machine Worker Record
 
--- all that a table says
-abbrev pub table_of : Partition → ℕ → ℕ
-table_of p v = slice_index (p.places ∷ p.workers ∷ vec_items p.owners) v
+abbrev pub seat_of : Seat → world.Machine W.Worker J.Record
+seat_of = machine_of worker_of record_of
 
--- who sits here, if anybody, is worker i, and goes by that table
-abbrev pub line_in : (i : ℕ) → Option Worker → ℕ
-line_in i None = i
-line_in i (Some x) = x.me.0
+-- two tables say the same
+abbrev pub SameTable : Partition → Partition → Type 0
+SameTable t u = (t.places ≡ u.places) × (t.workers ≡ u.workers) × (vec_items t.owners ≡ vec_items u.owners)
 
-abbrev pub table_in : Partition → Option Worker → ℕ → ℕ
-table_in t None = table_of t
-table_in t (Some x) = table_of x.table
-
-abbrev pub Agrees : Partition → (i : ℕ) → Option Worker → Type 0
-Agrees t i o = (line_in i o ≡ i) × (table_in t o ≡ table_of t)
-
-abbrev pub Sits : Partition → (i : ℕ) → Seat → Type 0
-Sits t i s = (s.me.0 ≡ i) × Agrees t i s.worker
-
--- each worker sits in its own seat, and all go by that table
-abbrev pub Numbered : List Seat → Type 0
-Numbered xs = (k : ℕ) (d : Seat) → k < length xs → (get_or xs k d).me.0 ≡ k
+-- who is up here, if anybody, is worker i, and goes by that table
+abbrev pub Sits : Partition → (i : ℕ) → Option Worker → Type 0
+Sits t i o = ForSome o (λ w. (w.station.me.0 ≡ i) × SameTable w.station.table t)
 
 abbrev pub worker_at : List Seat → ℕ → Option Worker
-worker_at xs k = slice_index_or (map (λ (s : Seat). s.worker) xs) k None
+worker_at xs k = slice_index_or (map (λ (s : Seat). s.up) xs) k None
 
-abbrev pub Manned : List Seat → Type 0
-Manned xs = (k : ℕ) → line_in k (worker_at xs k) ≡ k
-
-abbrev pub Alike : Partition → List Seat → Type 0
-Alike t xs = (k v : ℕ) → table_in t (worker_at xs k) v ≡ table_of t v
-
+-- each worker sits in its own seat, and all go by that table
 abbrev pub Seated : Partition → List Seat → Type 0
-Seated t xs = Numbered xs × Manned xs × Alike t xs
+Seated t xs = (k : ℕ) → Sits t k (worker_at xs k)
 
 -- nobody is up and nothing is kept
-abbrev pub nobody : Machine W.Worker Record
+abbrev pub nobody : world.Machine W.Worker J.Record
 nobody = record { up = None; journal = [] }
 
 -- past the last seat there is nobody
-abbrev pub seat_at : List Seat → ℕ → Machine W.Worker Record
+abbrev pub seat_at : List Seat → ℕ → world.Machine W.Worker J.Record
 seat_at xs i = slice_index_or (map seat_of xs) i nobody
 
-abbrev pub all_down : List Seat → Type 0
-all_down xs = (k : ℕ) → (worker_at xs k ≡ None) × (seat_at xs k ≡ nobody)
+-- a worker that was never up
+abbrev pub IsNew : Seat → Type 0
+IsNew s = (s.up ≡ None) × (vec_items s.journal.records ≡ [])
 
--- a call was made, and this is what is to be said
-pub record Did (b : Job) (i : ℕ) (c : Call) (x y : Machine W.Worker Record) (ps : List Parcel) : Type 0 where
-  pub machine : y ≡ after x (worker_call b i c x.journal x.up)
-  pub says : ps ≡ (worker_call b i c x.journal x.up).says
+-- a call was made by worker i, and this is what is to be said
+abbrev pub Did : Job → (i : ℕ) → world.Call → (x y : world.Machine W.Worker J.Record) → List Parcel → Type 0
+Did b i c x y = Came (world.worker_call b i c x.journal x.up) x y

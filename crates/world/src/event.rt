@@ -1,7 +1,7 @@
 // What can befall a crew.
 use crew::Line;
 
-#[derive(Clone, Copy)]
+#[derive(Clone, Copy, Debug, PartialEq, Eq)]
 pub enum Event {
     // a machine comes up, ticks, does its round where one is due, or crashes
     Up(Line),

@@ -1,16 +1,14 @@
 // A whole crew in one program: its machines, their journals, and what is under way.
 #![tactic(auto)]
 
-mod desk;
+mod call;
 mod event;
 mod look;
-mod queue;
-mod sealed;
-mod seat;
+mod machine;
 mod state;
-mod step;
+mod world;
 
 pub use event::Event;
 pub use look::Look;
-pub use sealed::{Seal, World};
 pub use state::State;
+pub use world::World;

@@ -2,7 +2,7 @@
 use meaning::{Place, Round};
 
 // After so many rounds, the place's state and whether it rests.
-#[derive(Clone, Copy)]
+#[derive(Clone, Copy, Debug, PartialEq, Eq)]
 pub struct Look<'a> {
     pub round: Round,
     pub place: Place,

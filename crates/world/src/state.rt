@@ -1,28 +1,25 @@
 // The crew: its machines, their journals, and what is under way.
 ghost use Rattle.std.specs.Prelude.{◌≡◌, vec_len};
 ghost use Rattle.world.specs.Paced.{Heads};
-ghost use Rattle.world.specs.Seated.{Alike, Manned, Numbered};
+ghost use Rattle.world.specs.Seated.{Seated};
 
-use crate::desk::Desk;
-use crate::seat::Seat;
-use crew::{Parcel, Partition};
+use crate::machine::Machine;
+use crew::{Foreman, Note, Parcel, Partition, Record};
 use std::collections::VecDeque;
+use workers::Worker;
 
 mod asks;
 mod calls;
 mod events;
-mod happens;
 
 // What is under way waits in the order said.
 #[derive(Drop)]
 pub struct State {
     table: Partition,
-    seats: Vec<Seat>,
-    desk: Desk,
+    seats: Vec<Machine<Worker, Record>>,
+    desk: Machine<Foreman, Note>,
     underway: VecDeque<Parcel>,
     ghost many: { vec_len seats ≡ table.workers },
-    ghost numbered: { Numbered seats.items },
-    ghost manned: { Manned seats.items },
-    ghost alike: { Alike table seats.items },
-    ghost headed: { Heads table.workers desk.foreman },
+    ghost seated: { Seated table seats.items },
+    ghost headed: { Heads table.workers desk.up },
 }

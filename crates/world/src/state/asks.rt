@@ -1,5 +1,5 @@
 // What is asked of a crew.
-ghost use Rattle.std.specs.Prelude.{◌≡◌, ℕ};
+ghost use Rattle.std.specs.Prelude.{◌≡◌};
 ghost use Rattle.crew.specs.declared.numbers.Line.{Line};
 ghost use Rattle.std.specs.Option.{option_map};
 ghost use Rattle.world.specs.Seated.{worker_at};
@@ -20,35 +20,27 @@ impl State {
     pub fn due(&self) -> Option<Line>
         ensures { option_map (λ (l : Line). l.0) result ≡ due_to (crew_of self.now).underway }
     {
-        match self.underway.front() {
-            Some(parcel) => Some(parcel.to),
-            None => None,
-        }
+        self.underway.front().map(|parcel| parcel.to)
     }
 
     // A worker, where it is up.
     pub fn worker(&self, line: Line) -> Option<&Worker>
         ensures { option_map (λ x. x.now) result ≡ worker_at self.now.seats.items line.0 }
     {
-        let i = line.0 as usize;
-        if i < self.seats.len() {
-            self.seats[i].worker()
-        } else {
-            None
-        }
+        self.seats.get(line.0 as usize)?.up()
     }
 
     // The foreman, where it is up.
     pub fn foreman(&self) -> Option<Foreman>
-        ensures { result ≡ self.now.desk.foreman }
+        ensures { result ≡ self.now.desk.up }
     {
-        self.desk.foreman()
+        self.desk.up().copied()
     }
 
     // What the foreman has written down.
     pub fn notes(&self) -> &[Note]
-        ensures { result.now ≡ self.now.desk.notes.records.items }
+        ensures { result.now ≡ self.now.desk.journal.records.items }
     {
-        self.desk.notes()
+        self.desk.records()
     }
 }

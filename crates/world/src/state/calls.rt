@@ -1,143 +1,58 @@
-// What befalls a crew.
-ghost use Rattle.std.specs.Prelude.{◌≡◌, ℕ, ◌<◌, IfOk, vec_len, OnOk};
+// A call of one machine.
+ghost use Rattle.std.specs.Prelude.{IfOk, OnOk};
 ghost use Rattle.crew.specs.Shared.{job_of};
-ghost use Rattle.crew.specs.Stored.{parcel_of, parcels_of};
+ghost use Rattle.crew.specs.Stored.{parcels_of};
+ghost use Rattle.runs.specs.Crew.{acts, crashed};
 ghost use Rattle.meaning.specs.Meaning.{Program};
-ghost use Rattle.runs.specs.Crew.{acts, foreman_acts, handed, worker_acts};
-ghost use Rattle.runs.specs.World.{Take};
-ghost use Rattle.world.specs.Seated.{Seated};
-ghost use Rattle.world.specs.Staged.{Moved, crew_of};
-ghost use Rattle.world.specs.Steps.{call_of};
+ghost use Rattle.world.specs.Calls.{call_of};
+ghost use Rattle.world.specs.Staged.{Leads, Told};
 
-use crate::queue::push_all;
-use crate::seat::Seat;
+use crate::call::{Call, Setting};
 use crate::state::State;
-use crate::step::Step;
-use crew::{Line, Parcel, Partition};
+use crew::{Line, Parcel};
 use meaning::Plan;
-use std::alloc::{AllocError, Global};
-
-// A call of the worker in that seat.
-fn seat_acts<P: Plan>(
-    seats: &mut Vec<Seat>,
-    i: usize,
-    heap: Global,
-    plan: &P,
-    table: &Partition,
-    step: Step,
-) -> Result<Vec<Parcel>, AllocError>
-    requires there { i < vec_len seats.old }
-    requires seated { Seated table.now seats.old.items }
-    ensures moved { IfOk result (λ ps. Moved (job_of table.now (P.Plan.program plan.now)) i (call_of step) seats.old.items seats.new.items (parcels_of ps.items)) }
-    ensures seated { Seated table.now seats.new.items }
-    ensures many { vec_len seats.new ≡ vec_len seats.old }
-{
-    seats[i].call(heap, plan, table, step)
-}
-
-// A message comes to the worker in that seat.
-fn seat_takes<P: Plan>(
-    seats: &mut Vec<Seat>,
-    i: usize,
-    heap: Global,
-    plan: &P,
-    table: &Partition,
-    parcel: &Parcel,
-) -> Result<Vec<Parcel>, AllocError>
-    requires there { i < vec_len seats.old }
-    requires seated { Seated table.now seats.old.items }
-    ensures moved { IfOk result (λ ps. Moved (job_of table.now (P.Plan.program plan.now)) i (Take (parcel_of parcel.now).from (parcel_of parcel.now).message) seats.old.items seats.new.items (parcels_of ps.items)) }
-    ensures seated { Seated table.now seats.new.items }
-    ensures many { vec_len seats.new ≡ vec_len seats.old }
-{
-    seats[i].take(heap, plan, table, parcel.from, parcel.kind, &parcel.letters)
-}
+use std::alloc::AllocError;
+use std::collections::VecDeque;
 
 impl State {
-    // A machine comes up, ticks, or does its round. On a line where there is nobody nothing happens.
+    // What a machine says comes behind what is under way. On a line where there is nobody nothing happens.
     pub(crate) fn act<P: Plan>(
         &mut self,
-        heap: Global,
-        plan: &P,
+        setting: &Setting<'_, P>,
         line: Line,
-        step: Step,
+        call: Call<'_>,
     ) -> Result<(), AllocError>
-        ensures leads { OnOk result (crew_of self.new ≡ acts (job_of self.old.table (P.Plan.program plan.now)) line.0 (call_of step) (crew_of self.old).underway (crew_of self.old)) }
-        ensures same { self.new.table ≡ self.old.table }
+        ensures { OnOk result (Leads (λ s. acts (job_of self.old.table (P.Plan.program setting.now.plan.now)) line.0 (call_of call.entry) s.underway s) self.old self.new) }
     {
-        let i = line.0 as usize;
-        if line.0 == 64 {
-            self.foreman_acts(heap, step)
-        } else if i < self.seats.len() {
-            self.worker_acts(heap, plan, i, step)
+        let says = self.tell(setting, line, call)?;
+        self.underway.append(&mut VecDeque::from_vec(says))
+    }
+
+    fn tell<P: Plan>(
+        &mut self,
+        setting: &Setting<'_, P>,
+        line: Line,
+        call: Call<'_>,
+    ) -> Result<Vec<Parcel>, AllocError>
+        ensures { IfOk result (λ says. Told (job_of self.old.table (P.Plan.program setting.now.plan.now)) line.0 (call_of call.entry) self.old self.new (parcels_of says.items)) }
+    {
+        if line == Line::FOREMAN {
+            self.desk.call(setting.heap, &self.table, call)
+        } else if let Some(seat) = self.seats.get_mut(line.0 as usize) {
+            seat.call(setting, &self.table, line, call)
         } else {
-            Ok(())
+            Ok(Vec::new(setting.heap))
         }
     }
 
-    fn foreman_acts(&mut self, heap: Global, step: Step) -> Result<(), AllocError>
-        ensures leads { OnOk result (((q : Program) → crew_of self.new ≡ foreman_acts (job_of self.old.table q) (call_of step) (crew_of self.old).underway (crew_of self.old))) }
-        ensures same { self.new.table ≡ self.old.table }
+    // A machine crashes: its journal is all that is left. On a line where there is nobody nothing happens.
+    pub(crate) fn crash(&mut self, line: Line)
+        ensures { (q : Program) → Leads (crashed (job_of self.old.table q) line.0) self.old self.new }
     {
-        let says = self.desk.call(heap, &self.table, step)?;
-        push_all(&mut self.underway, says)
-    }
-
-    fn worker_acts<P: Plan>(
-        &mut self,
-        heap: Global,
-        plan: &P,
-        i: usize,
-        step: Step,
-    ) -> Result<(), AllocError>
-        requires { i < vec_len self.old.seats }
-        ensures leads { OnOk result (crew_of self.new ≡ worker_acts (job_of self.old.table (P.Plan.program plan.now)) i (call_of step) (crew_of self.old).underway (crew_of self.old)) }
-        ensures same { self.new.table ≡ self.old.table }
-    {
-        let says = seat_acts(&mut self.seats, i, heap, plan, &self.table, step)?;
-        push_all(&mut self.underway, says)
-    }
-
-    // A message is handed to the machine that it is for.
-    pub(crate) fn hand<P: Plan>(
-        &mut self,
-        heap: Global,
-        plan: &P,
-        parcel: &Parcel,
-    ) -> Result<(), AllocError>
-        ensures leads { OnOk result (crew_of self.new ≡ handed (job_of self.old.table (P.Plan.program plan.now)) (parcel_of parcel.now) (crew_of self.old).underway (crew_of self.old)) }
-        ensures same { self.new.table ≡ self.old.table }
-    {
-        let i = parcel.to.0 as usize;
-        if parcel.to.0 == 64 {
-            self.foreman_takes(heap, parcel)
-        } else if i < self.seats.len() {
-            self.worker_takes(heap, plan, i, parcel)
-        } else {
-            Ok(())
+        if line == Line::FOREMAN {
+            self.desk.crash();
+        } else if let Some(seat) = self.seats.get_mut(line.0 as usize) {
+            seat.crash();
         }
-    }
-
-    fn foreman_takes(&mut self, heap: Global, parcel: &Parcel) -> Result<(), AllocError>
-        ensures leads { OnOk result (((q : Program) → crew_of self.new ≡ foreman_acts (job_of self.old.table q) (Take (parcel_of parcel.now).from (parcel_of parcel.now).message) (crew_of self.old).underway (crew_of self.old))) }
-        ensures same { self.new.table ≡ self.old.table }
-    {
-        let says = self.desk.take(heap, &self.table, parcel.from, parcel.kind, &parcel.letters)?;
-        push_all(&mut self.underway, says)
-    }
-
-    fn worker_takes<P: Plan>(
-        &mut self,
-        heap: Global,
-        plan: &P,
-        i: usize,
-        parcel: &Parcel,
-    ) -> Result<(), AllocError>
-        requires { i < vec_len self.old.seats }
-        ensures leads { OnOk result (crew_of self.new ≡ worker_acts (job_of self.old.table (P.Plan.program plan.now)) i (Take (parcel_of parcel.now).from (parcel_of parcel.now).message) (crew_of self.old).underway (crew_of self.old)) }
-        ensures same { self.new.table ≡ self.old.table }
-    {
-        let says = seat_takes(&mut self.seats, i, heap, plan, &self.table, parcel)?;
-        push_all(&mut self.underway, says)
     }
 }

@@ -1,112 +1,113 @@
-// What befalls what is under way, and crashes.
-ghost use Rattle.std.specs.Prelude.{◌≡◌, ℕ, ◌<◌, IfOk, vec_len, OnOk};
+// What can befall a crew.
+ghost use Rattle.std.specs.Prelude.{◌≡◌, IfOk, OnOk, vec_len};
 ghost use Rattle.crew.specs.Shared.{job_of};
-ghost use Rattle.meaning.specs.Meaning.{Program};
-ghost use Rattle.runs.specs.Crew.{crashed, delayed, doubled, fresh, gave, lost, worker_falls};
-ghost use Rattle.world.specs.Seated.{Numbered, all_down};
-ghost use Rattle.world.specs.Staged.{crew_of};
+ghost use Rattle.runs.specs.Crew.{delayed, doubled, fresh, gave, lost};
+ghost use Rattle.std.specs.List.{All};
+ghost use Rattle.world.specs.Events.{happened};
+ghost use Rattle.world.specs.Seated.{IsNew};
+ghost use Rattle.world.specs.Staged.{Leads, crew_of};
 
-use crate::desk::Desk;
-use crate::seat::Seat;
+use crate::call::{Call, Setting};
+use crate::event::Event;
+use crate::machine::Machine;
 use crate::state::State;
-use crew::{Line, Parcel, Partition};
+use crew::{Parcel, Partition, Record};
 use meaning::Plan;
 use std::alloc::{AllocError, Global};
 use std::collections::VecDeque;
+use workers::Worker;
 
 impl State {
     // A crew with that table, of which nobody was ever up.
     pub(crate) fn new(heap: Global, table: Partition) -> Result<State, AllocError>
         ensures { IfOk result (λ s. (s.table ≡ table) × (crew_of s ≡ fresh)) }
     {
-        let seats = empty_seats(heap, table.workers())?;
+        let seats = new_seats(heap, table.workers())?;
         Ok(State {
             table,
             seats,
-            desk: Desk::new(heap),
+            desk: Machine::new(heap),
             underway: VecDeque::new(heap),
         })
     }
 
-    // What is due next is handed over.
-    pub(crate) fn give<P: Plan>(&mut self, heap: Global, plan: &P) -> Result<(), AllocError>
-        ensures leads { OnOk result (crew_of self.new ≡ gave (job_of self.old.table (P.Plan.program plan.now)) (crew_of self.old)) }
-        ensures same { self.new.table ≡ self.old.table }
+    // Every event by one call: events are data, read from a script.
+    pub(crate) fn happen<P: Plan>(
+        &mut self,
+        setting: &Setting<'_, P>,
+        event: Event,
+    ) -> Result<(), AllocError>
+        ensures { OnOk result (Leads (happened (job_of self.old.table (P.Plan.program setting.now.plan.now)) event) self.old self.new) }
     {
-        match self.underway.pop_front() {
-            Some(parcel) => self.hand(heap, plan, &parcel),
-            None => Ok(()),
+        match event {
+            Event::Up(line) => self.act(setting, line, Call::Open),
+            Event::Tick(line) => self.act(setting, line, Call::Tick),
+            Event::Work(line) => self.act(setting, line, Call::Work),
+            Event::Crash(line) => {
+                self.crash(line);
+                Ok(())
+            }
+            Event::Give => self.give(setting),
+            Event::Twice => self.twice(setting),
+            Event::Lose => {
+                self.lose();
+                Ok(())
+            }
+            Event::Late(k) => self.late(k),
         }
     }
 
-    // It is handed over, and is under way again.
-    pub(crate) fn twice<P: Plan>(&mut self, heap: Global, plan: &P) -> Result<(), AllocError>
-        ensures leads { OnOk result (crew_of self.new ≡ doubled (job_of self.old.table (P.Plan.program plan.now)) (crew_of self.old)) }
-        ensures same { self.new.table ≡ self.old.table }
+    // What is due next is handed over.
+    fn give<P: Plan>(&mut self, setting: &Setting<'_, P>) -> Result<(), AllocError>
+        ensures { OnOk result (Leads (gave (job_of self.old.table (P.Plan.program setting.now.plan.now))) self.old self.new) }
     {
         let Some(parcel) = self.underway.pop_front() else {
             return Ok(());
         };
-        let letters = parcel.letters.copy(heap)?;
+        self.act(setting, parcel.to, Call::Take(&parcel))
+    }
+
+    // It is handed over, and is under way again.
+    fn twice<P: Plan>(&mut self, setting: &Setting<'_, P>) -> Result<(), AllocError>
+        ensures { OnOk result (Leads (doubled (job_of self.old.table (P.Plan.program setting.now.plan.now))) self.old self.new) }
+    {
+        let Some(parcel) = self.underway.pop_front() else {
+            return Ok(());
+        };
         self.underway.push_back(Parcel {
-            from: parcel.from,
-            to: parcel.to,
-            kind: parcel.kind,
-            letters,
+            letters: parcel.letters.clone()?,
+            ..parcel
         })?;
-        self.hand(heap, plan, &parcel)
+        self.act(setting, parcel.to, Call::Take(&parcel))
     }
 
     // It is lost.
-    pub(crate) fn lose(&mut self)
-        ensures leads { crew_of self.new ≡ lost (crew_of self.old) }
-        ensures same { self.new.table ≡ self.old.table }
+    fn lose(&mut self)
+        ensures { Leads lost self.old self.new }
     {
         drop(self.underway.pop_front());
     }
 
     // It comes behind so many others.
-    pub(crate) fn late(&mut self, k: usize) -> Result<(), AllocError>
-        ensures leads { OnOk result (crew_of self.new ≡ delayed k (crew_of self.old)) }
-        ensures same { self.new.table ≡ self.old.table }
+    fn late(&mut self, k: usize) -> Result<(), AllocError>
+        ensures { OnOk result (Leads (delayed k) self.old self.new) }
     {
         let Some(parcel) = self.underway.pop_front() else {
             return Ok(());
         };
-        let place = k.min(self.underway.len());
-        self.underway.insert(place, parcel)?;
+        let behind = k.min(self.underway.len());
+        self.underway.insert(behind, parcel)?;
         Ok(())
-    }
-
-    // A machine crashes: its journal is all that is left. On a line where there is nobody nothing happens.
-    pub(crate) fn crash(&mut self, line: Line)
-        ensures leads { (q : Program) → crew_of self.new ≡ crashed (job_of self.old.table q) line.0 (crew_of self.old) }
-        ensures same { self.new.table ≡ self.old.table }
-    {
-        let i = line.0 as usize;
-        if line.0 == 64 {
-            self.desk.crash();
-        } else if i < self.seats.len() {
-            self.worker_crashes(i);
-        }
-    }
-
-    fn worker_crashes(&mut self, i: usize)
-        requires { i < vec_len self.old.seats }
-        ensures leads { crew_of self.new ≡ worker_falls i (crew_of self.old) }
-        ensures same { self.new.table ≡ self.old.table }
-    {
-        self.seats[i].crash();
     }
 }
 
 // So many seats, of workers that were never up.
-fn empty_seats(heap: Global, workers: u8) -> Result<Vec<Seat>, AllocError>
-    ensures { IfOk result (λ v. (vec_len v ≡ workers) × Numbered v.items × all_down v.items) }
+fn new_seats(heap: Global, workers: u8) -> Result<Vec<Machine<Worker, Record>>, AllocError>
+    ensures { IfOk result (λ v. (vec_len v ≡ workers) × All IsNew v.items) }
 {
     let mut seats = Vec::new(heap);
-    for i in 0..workers {
-        seats.push(Seat::new(heap, Line(i)))?;
+    for _ in 0..workers {
+        seats.push(Machine::new(heap))?;
     }
     Ok(seats)
 }

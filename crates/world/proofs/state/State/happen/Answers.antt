@@ -1,12 +1,11 @@
-use Rattle.world.proofs.Pacing.{made_map}
-use Rattle.world.proofs.Reaching.{reach_happened}
+use Rattle.std.proofs.Common.{sym, ap, ◌∙◌}
+use Rattle.crew.specs.Shared.{job_of}
+use Rattle.world.specs.Events.{happened}
+use Rattle.world.specs.Staged.{crew_of}
 use Rattle.world.proofs.state.State.happen.Goals as goal
 
-pub returns : goal.returns
-returns g c =
-    let q = g.P.Plan.program c.args.plan.now in
-    record {
-      leads = c.befall.ensures.leads;
-      same = c.befall.ensures.same;
-      keeps = made_map _ _ c.befall.result c.befall.ensures.leads (λ _ h. reach_happened q c.args.self.now c.befall.new.self c.args.event h c.befall.ensures.same);
-    }
+pub returns-in-Crash : goal.returns-in-Crash
+returns-in-Crash g c =
+    let s = c.args.self.now in
+    let q = g.P.Plan.program c.args.setting.now.plan.now in
+    record { table = (c.crash.ensures q).table; crew = (c.crash.ensures q).crew ∙ ap (λ e. happened (job_of s.table q) e (crew_of s)) (sym c.in-Crash.is) }

@@ -1,7 +1,2 @@
-pub mod Splitting
-pub mod Figures
-pub mod Judging
-pub mod Printing
-pub mod Lining
 pub mod Stretches
 pub mod Propriety

@@ -1,6 +1,8 @@
 -- Which events are drawn from a seed.
 -- Assumes nothing.
 use Rattle.std.specs.Prelude.{ℕ, ◌+◌, ◌*◌, ◌/◌, ◌%◌, ◌^◌, cond, None, nat_lt}
+use Rattle.crew_script.specs.declared.settings.Machine.{Machine}
+use Rattle.crew_script.specs.declared.settings.Machine.TheVariants.{Worker, Foreman}
 use Rattle.crew_script.specs.declared.settings.Event.{Event}
 use Rattle.crew_script.specs.declared.settings.Event.TheVariants.{Tick, Up, Cut, Give, Lose, Twice, Late}
 
@@ -9,8 +11,8 @@ abbrev pub state_after : ℕ → ℕ
 state_after h = (h * 6364136223846793005 + 1442695040888963407) % 2 ^ 64
 
 -- one of the workers, or the foreman
-abbrev pub machine_at : (rest workers : ℕ) → ℕ
-machine_at y m = cond (nat_lt (y % (m + 1)) m) (y % (m + 1)) 64
+abbrev pub machine_at : (rest workers : ℕ) → Machine
+machine_at y m = cond (nat_lt (y % (m + 1)) m) (Worker (y % (m + 1))) Foreman
 
 -- of 256 draws 182 give, 10 lose, 10 are twice, 20 late, 12 tick, 20 up and 2 cut
 abbrev pub event_by : (kind rest workers : ℕ) → Event

@@ -1,10 +1,10 @@
-pub mod Text
-pub mod Class
 pub mod Saying
+pub mod Asked
+pub mod Wording
+pub mod Given
 pub mod Script
 pub mod Told
-pub mod Output
-pub mod Wording
 pub mod Proper
 pub mod Counts
 pub mod Draws
+pub mod Drawing

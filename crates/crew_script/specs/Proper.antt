@@ -1,71 +1,53 @@
 -- Which texts are good scripts, with no word of how they are read.
 -- Assumes nothing.
-use Rattle.std.specs.Prelude.{◌≡◌, ℕ, ◌<◌, true, List, [], ◌∷◌, map, Some, Ok, Option, Result}
-use Rattle.crew_script.specs.declared.settings.Choice.{Choice}
+use Rattle.std.specs.Prelude.{◌≡◌, ℕ, ◌<◌, true, List, [], ◌∷◌, map, Ok, Result}
+use Rattle.std.specs.List.{flat_map}
+use Rattle.script.specs.declared.complaints.Expected as script_expected
+use Rattle.script.specs.declared.settings.Choice.{Choice}
+use Rattle.script.specs.declared.statements.Statement as script_statement
+use Rattle.script.specs.declared.statements.Statement.TheVariants.{Nothing}
+use Rattle.script.specs.Proper as script
+use Rattle.script.specs.Reading.{Outcome, good}
 use Rattle.crew_script.specs.declared.settings.Span.{Span}
 use Rattle.crew_script.specs.declared.settings.Event.{Event}
 use Rattle.crew_script.specs.declared.complaints.Expected.{Expected}
 use Rattle.crew_script.specs.declared.statements.Statement.{Statement}
-use Rattle.crew_script.specs.declared.statements.Statement.TheVariants.{Nothing, Unknown, Places, Plan, Alone, Workers, Owner, Happens}
-use Rattle.crew_script.specs.Script.{Asked, Outcome, Players, lone, crew, each, good, statements_of, there}
+use Rattle.crew_script.specs.declared.statements.Statement.TheVariants.{Lone, Workers, Owner, Happens}
+use Rattle.crew_script.specs.Asked.{Asked, Players, lone, crew}
+use Rattle.crew_script.specs.Given.{there}
+use Rattle.crew_script.specs.Script.{statements_of}
+
+-- what a line says without crews
+abbrev pub lone_in : Statement → script_statement.Statement
+lone_in (Lone st) = st
+lone_in (Workers m) = Nothing
+lone_in (Owner x) = Nothing
+lone_in (Happens e) = Nothing
 
 -- what follows each first word, in a line that begins with it
-abbrev pub places_in : Statement → List (Option ℕ)
-places_in Nothing = []
-places_in Unknown = []
-places_in (Places n) = n ∷ []
-places_in (Plan p) = []
-places_in (Alone r) = []
-places_in (Workers m) = []
-places_in (Owner x) = []
-places_in (Happens e) = []
+abbrev pub places_in : Statement → List (Result ℕ script_expected.Expected)
+places_in st = script.places_in (lone_in st)
 
-abbrev pub plans_in : Statement → List (Result Choice Expected)
-plans_in Nothing = []
-plans_in Unknown = []
-plans_in (Places n) = []
-plans_in (Plan p) = p ∷ []
-plans_in (Alone r) = []
-plans_in (Workers m) = []
-plans_in (Owner x) = []
-plans_in (Happens e) = []
+abbrev pub plans_in : Statement → List (Result Choice script_expected.Expected)
+plans_in st = script.plans_in (lone_in st)
 
-abbrev pub alones_in : Statement → List (Option ℕ)
-alones_in Nothing = []
-alones_in Unknown = []
-alones_in (Places n) = []
-alones_in (Plan p) = []
-alones_in (Alone r) = r ∷ []
-alones_in (Workers m) = []
-alones_in (Owner x) = []
-alones_in (Happens e) = []
+abbrev pub alones_in : Statement → List (Result ℕ script_expected.Expected)
+alones_in st = script.alones_in (lone_in st)
 
-abbrev pub workers_in : Statement → List (Option ℕ)
-workers_in Nothing = []
-workers_in Unknown = []
-workers_in (Places n) = []
-workers_in (Plan p) = []
-workers_in (Alone r) = []
+abbrev pub workers_in : Statement → List (Result ℕ Expected)
+workers_in (Lone st) = []
 workers_in (Workers m) = m ∷ []
 workers_in (Owner x) = []
 workers_in (Happens e) = []
 
-abbrev pub owners_in : Statement → List (Option Span)
-owners_in Nothing = []
-owners_in Unknown = []
-owners_in (Places n) = []
-owners_in (Plan p) = []
-owners_in (Alone r) = []
+abbrev pub owners_in : Statement → List (Result Span Expected)
+owners_in (Lone st) = []
 owners_in (Workers m) = []
 owners_in (Owner x) = x ∷ []
 owners_in (Happens e) = []
 
 abbrev pub happens_in : Statement → List (Result Event Expected)
-happens_in Nothing = []
-happens_in Unknown = []
-happens_in (Places n) = []
-happens_in (Plan p) = []
-happens_in (Alone r) = []
+happens_in (Lone st) = []
 happens_in (Workers m) = []
 happens_in (Owner x) = []
 happens_in (Happens e) = e ∷ []
@@ -73,14 +55,7 @@ happens_in (Happens e) = e ∷ []
 -- no line begins with another word
 abbrev pub Known : List Statement → Type 0
 Known [] = Unit {0}
-Known (Nothing ∷ ss) = Known ss
-Known (Unknown ∷ ss) = ⊥
-Known (Places n ∷ ss) = Known ss
-Known (Plan p ∷ ss) = Known ss
-Known (Alone r ∷ ss) = Known ss
-Known (Workers m ∷ ss) = Known ss
-Known (Owner x ∷ ss) = Known ss
-Known (Happens e ∷ ss) = Known ss
+Known (st ∷ ss) = script.IsKnown (lone_in st) × Known ss
 
 -- stretches above place f that rise, of places and workers that are there
 abbrev pub Rising : (places workers f : ℕ) → List Span → Type 0
@@ -99,19 +74,19 @@ AllThere m (e ∷ es) = (there m e ≡ true) × AllThere m es
 
 -- one `alone` and nothing of a crew; or one `workers` and no `alone`, with stretches and events as they should be
 abbrev pub Cast : List Statement → (places : ℕ) → Players → Type 0
-Cast ss n (lone r) = (each alones_in ss ≡ Some r ∷ []) × (each workers_in ss ≡ []) × (each owners_in ss ≡ []) × (each happens_in ss ≡ [])
+Cast ss n (lone r) = (flat_map alones_in ss ≡ Ok r ∷ []) × (flat_map workers_in ss ≡ []) × (flat_map owners_in ss ≡ []) × (flat_map happens_in ss ≡ [])
 Cast ss n (crew m xs es) =
-    (each alones_in ss ≡ []) × (each workers_in ss ≡ Some m ∷ [])
-    × (each owners_in ss ≡ map (λ x. Some x) xs) × Shared n m xs
-    × (each happens_in ss ≡ map (λ e. Ok e) es) × AllThere m es
+    (flat_map alones_in ss ≡ []) × (flat_map workers_in ss ≡ Ok m ∷ [])
+    × (flat_map owners_in ss ≡ map (λ x. Ok x) xs) × Shared n m xs
+    × (flat_map happens_in ss ≡ map (λ e. Ok e) es) × AllThere m es
 
 -- one `places`, one `plan` and one run, with what is asked for, in any order, and no other line
 pub record Proper (ss : List Statement) (s : Asked) : Type 0 where
-  pub places : each places_in ss ≡ Some s.places ∷ []
-  pub plan : each plans_in ss ≡ Ok s.plan ∷ []
+  pub places : flat_map places_in ss ≡ Ok s.places ∷ []
+  pub plan : flat_map plans_in ss ≡ Ok s.plan ∷ []
   pub run : Cast ss s.places s.run
   pub known : Known ss
 
 -- good with what it asks for and nothing else
-abbrev pub Judged : List ℕ → Outcome → Type 0
+abbrev pub Judged : List ℕ → Outcome Asked Expected → Type 0
 Judged text o = (s : Asked) → (o ≡ good s → Proper (statements_of text) s) × (Proper (statements_of text) s → o ≡ good s)

@@ -1,18 +1,20 @@
 -- What is printed of what should have stood there.
 -- Assumes nothing.
 use Rattle.std.specs.Prelude.{ℕ, List, codes}
+use Rattle.script.specs.Wording as script
+use Rattle.script.specs.declared.complaints.Expected as script_expected
+use Rattle.script.specs.declared.complaints.Expected.TheVariants as script_variants
 use Rattle.crew_script.specs.declared.complaints.Expected.{Expected}
-use Rattle.crew_script.specs.declared.complaints.Expected.TheVariants.{FirstWord, PlaceCount, PlanName, NoSettings, ScrambleSettings, GridSettings, RoundCount, Once, WorkerCount, CrewOnce, OneRun, CrewLine, OwnerSettings, TickSettings, UpSettings, CutSettings, NoWord, LateSettings, SeedSettings, UntilSettings, Machine, PlacesLine, PlanLine, RunLine}
+use Rattle.crew_script.specs.declared.complaints.Expected.TheVariants.{FirstWord, Lone, WorkerCount, CrewOnce, OneRun, CrewLine, OwnerSettings, TickSettings, UpSettings, CutSettings, NoWord, LateSettings, SeedSettings, UntilSettings, Machine, RunLine}
+
+-- more first words are there with crews
+abbrev pub with_crews : script_expected.Expected → Expected
+with_crews script_variants.FirstWord = FirstWord
+with_crews e = Lone e
 
 abbrev pub wording : Expected → List ℕ
 wording FirstWord = codes "'places', 'plan' or 'alone', or with a crew 'workers', 'owner' or an event"
-wording PlaceCount = codes "a number of places from 0 to 1048576 and no other word"
-wording PlanName = codes "a plan: sum, echo, scramble L or grid W L"
-wording NoSettings = codes "no word after the plan's name"
-wording ScrambleSettings = codes "'scramble L', L from 0 to 4294967295"
-wording GridSettings = codes "'grid W L', W from 1 to 1048576, L from 0 to 4294967295"
-wording RoundCount = codes "a number of rounds from 0 to 2147483647 and no other word"
-wording Once = codes "each of 'places', 'plan' and 'alone' only once"
+wording (Lone e) = script.wording e
 wording WorkerCount = codes "a number of workers from 1 to 8 and no other word"
 wording CrewOnce = codes "'workers' only once"
 wording OneRun = codes "one of 'alone' and 'workers', not both"
@@ -26,6 +28,4 @@ wording LateSettings = codes "'late K', K from 0 to 4294967295"
 wording SeedSettings = codes "'seed S T', S and T from 0 to 4294967295"
 wording UntilSettings = codes "'until over T', T from 0 to 4294967295"
 wording Machine = codes "a machine that is there: a worker below the workers, or 64"
-wording PlacesLine = codes "a line 'places N'"
-wording PlanLine = codes "a line 'plan NAME'"
 wording RunLine = codes "a line 'alone R' or 'workers M'"

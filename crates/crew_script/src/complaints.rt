@@ -1,20 +1,15 @@
-// What is wrong with a script, and where.
+// What is wrong with a script.
 ghost use Rattle.std.specs.Prelude.{◌≡◌, Some};
-ghost use Rattle.crew_script.specs.Wording.{wording};
+ghost use Rattle.crew_script.specs.Wording.{with_crews, wording};
 
 use std::fmt;
 
-// What should have stood there. The last three are whole lines that are missing.
+/// What should have stood there. `Lone` is what a script of one machine should have there too, and the last is a whole
+/// line that is missing.
 #[derive(Clone, Copy, Debug, PartialEq, Eq)]
 pub enum Expected {
     FirstWord,
-    PlaceCount,
-    PlanName,
-    NoSettings,
-    ScrambleSettings,
-    GridSettings,
-    RoundCount,
-    Once,
+    Lone(script::Expected),
     WorkerCount,
     CrewOnce,
     OneRun,
@@ -28,41 +23,34 @@ pub enum Expected {
     SeedSettings,
     UntilSettings,
     Machine,
-    PlacesLine,
-    PlanLine,
     RunLine,
 }
 
-fn text(expected: Expected) -> &'static str
-    ensures { result.now ≡ wording expected }
-{
-    match expected {
-        Expected::FirstWord =>
-            "'places', 'plan' or 'alone', or with a crew 'workers', 'owner' or an event",
-        Expected::PlaceCount => "a number of places from 0 to 1048576 and no other word",
-        Expected::PlanName => "a plan: sum, echo, scramble L or grid W L",
-        Expected::NoSettings => "no word after the plan's name",
-        Expected::ScrambleSettings => "'scramble L', L from 0 to 4294967295",
-        Expected::GridSettings => "'grid W L', W from 1 to 1048576, L from 0 to 4294967295",
-        Expected::RoundCount => "a number of rounds from 0 to 2147483647 and no other word",
-        Expected::Once => "each of 'places', 'plan' and 'alone' only once",
-        Expected::WorkerCount => "a number of workers from 1 to 8 and no other word",
-        Expected::CrewOnce => "'workers' only once",
-        Expected::OneRun => "one of 'alone' and 'workers', not both",
-        Expected::CrewLine => "this only where a line 'workers M' is",
-        Expected::OwnerSettings =>
-            "'owner FIRST WORKER', FIRST 0 at first, then rising and below the places, WORKER below the workers",
-        Expected::TickSettings => "'tick I', I a worker or 64",
-        Expected::UpSettings => "'up I', I a worker or 64",
-        Expected::CutSettings => "'cut I' or 'cut I B', I a worker or 64, B from 0 to 4294967295",
-        Expected::NoWord => "no word after 'give', 'lose' or 'twice'",
-        Expected::LateSettings => "'late K', K from 0 to 4294967295",
-        Expected::SeedSettings => "'seed S T', S and T from 0 to 4294967295",
-        Expected::UntilSettings => "'until over T', T from 0 to 4294967295",
-        Expected::Machine => "a machine that is there: a worker below the workers, or 64",
-        Expected::PlacesLine => "a line 'places N'",
-        Expected::PlanLine => "a line 'plan NAME'",
-        Expected::RunLine => "a line 'alone R' or 'workers M'",
+impl Expected {
+    fn text(self) -> &'static str
+        ensures { result.now ≡ wording self }
+    {
+        match self {
+            Expected::FirstWord =>
+                "'places', 'plan' or 'alone', or with a crew 'workers', 'owner' or an event",
+            Expected::Lone(expected) => expected.text(),
+            Expected::WorkerCount => "a number of workers from 1 to 8 and no other word",
+            Expected::CrewOnce => "'workers' only once",
+            Expected::OneRun => "one of 'alone' and 'workers', not both",
+            Expected::CrewLine => "this only where a line 'workers M' is",
+            Expected::OwnerSettings =>
+                "'owner FIRST WORKER', FIRST 0 at first, then rising and below the places, WORKER below the workers",
+            Expected::TickSettings => "'tick I', I a worker or 64",
+            Expected::UpSettings => "'up I', I a worker or 64",
+            Expected::CutSettings =>
+                "'cut I' or 'cut I B', I a worker or 64, B from 0 to 4294967295",
+            Expected::NoWord => "no word after 'give', 'lose' or 'twice'",
+            Expected::LateSettings => "'late K', K from 0 to 4294967295",
+            Expected::SeedSettings => "'seed S T', S and T from 0 to 4294967295",
+            Expected::UntilSettings => "'until over T', T from 0 to 4294967295",
+            Expected::Machine => "a machine that is there: a worker below the workers, or 64",
+            Expected::RunLine => "a line 'alone R' or 'workers M'",
+        }
     }
 }
 
@@ -70,16 +58,18 @@ impl fmt::Display for Expected {
     ghost output = { λ e. Some (wording e) };
 
     fn fmt<W: fmt::Write>(&self, f: &mut fmt::Formatter<W>) -> fmt::Result {
-        f.write_str(text(*self))
+        f.write_str(self.text())
     }
 }
 
-// The line's number, from 1, and where its text lies in the script, without its newline. All are 0 where a statement is
-// missing.
-#[derive(Clone, Copy, Debug, PartialEq, Eq)]
-pub struct Complaint {
-    pub line: usize,
-    pub expected: Expected,
-    pub start: usize,
-    pub end: usize,
+// More first words are there with crews.
+impl From<script::Expected> for Expected {
+    ghost from_gives = { λ e x. x ≡ with_crews e };
+
+    fn from(expected: script::Expected) -> Expected {
+        match expected {
+            script::Expected::FirstWord => Expected::FirstWord,
+            other => Expected::Lone(other),
+        }
+    }
 }

@@ -1,18 +1,43 @@
 // Events that are drawn from a seed.
 ghost use Rattle.std.specs.Prelude.{◌≡◌};
-ghost use Rattle.crew_script.specs.Draws.{event_at, machine_at, state_after};
+ghost use Rattle.crew_script.specs.Draws.{event_at, machine_at};
 
-use crate::settings::Event;
+use crate::settings::{Event, Machine};
 
-// The state after one draw, and the event that it draws for so many workers. The first state is the seed.
-pub fn draw(state: u64, workers: u8) -> (u64, Event)
-    ensures state { result.0 ≡ state_after state }
-    ensures event { result.1 ≡ event_at (state_after state) workers }
-{
-    let next = state
-        .wrapping_mul(6364136223846793005)
-        .wrapping_add(1442695040888963407);
-    (next, event_at(next, workers))
+/// The events that a seed draws for so many workers, without end.
+#[derive(Clone, Copy)]
+pub struct Draws {
+    state: u64,
+    workers: u8,
+}
+
+impl Draws {
+    ghost use Rattle.crew_script.specs.Drawing.{begun};
+
+    pub fn of(seed: u32, workers: u8) -> Draws
+        ensures { result ≡ begun seed workers }
+    {
+        Draws {
+            state: seed as u64,
+            workers,
+        }
+    }
+}
+
+impl Iterator for Draws {
+    ghost use Rattle.crew_script.specs.Drawing.{Draw};
+
+    type Item = Event;
+
+    ghost next_gives = { Draw };
+
+    fn next(&mut self) -> Option<Event> {
+        self.state = self
+            .state
+            .wrapping_mul(6364136223846793005)
+            .wrapping_add(1442695040888963407);
+        Some(event_at(self.state, self.workers))
+    }
 }
 
 // The upper half of the state says which event: its lowest byte the kind, and the rest the machine or the number.
@@ -21,34 +46,27 @@ fn event_at(state: u64, workers: u8) -> Event
 {
     let kind = state / 4294967296 % 256;
     let rest = state / 1099511627776;
-    if kind < 182 {
-        Event::Give
-    } else if kind < 192 {
-        Event::Lose
-    } else if kind < 202 {
-        Event::Twice
-    } else if kind < 222 {
-        Event::Late((rest % 8) as u32)
-    } else if kind < 234 {
-        Event::Tick(machine_at(rest, workers))
-    } else if kind < 254 {
-        Event::Up(machine_at(rest, workers))
-    } else {
-        Event::Cut {
+    match kind {
+        0..182 => Event::Give,
+        182..192 => Event::Lose,
+        192..202 => Event::Twice,
+        202..222 => Event::Late((rest % 8) as u32),
+        222..234 => Event::Tick(machine_at(rest, workers)),
+        234..254 => Event::Up(machine_at(rest, workers)),
+        _ => Event::Cut {
             machine: machine_at(rest, workers),
             keeps: None,
-        }
+        },
     }
 }
 
-// A worker, or the foreman.
-fn machine_at(rest: u64, workers: u8) -> u8
+fn machine_at(rest: u64, workers: u8) -> Machine
     ensures { result ≡ machine_at rest workers }
 {
     let machine = rest % (workers as u64 + 1);
     if machine < workers as u64 {
-        machine as u8
+        Machine::Worker(machine as u8)
     } else {
-        64
+        Machine::Foreman
     }
 }

@@ -1,102 +1,109 @@
 // What befalls a crew, as a line says it.
 ghost use Rattle.std.specs.Prelude.{◌≡◌};
-ghost use Rattle.crew_script.specs.Saying.{bare_of, cut_of, event_of, late_with, seed_of, tick_with, until_of, up_with};
-ghost use Rattle.crew_script.specs.Text.{one_number, spaced};
+ghost use Rattle.crew_script.specs.Saying.{cut_of, event_of, late_with, machine_in, seed_of, tick_with, until_of, up_with};
+ghost use Rattle.script.specs.Text.{number_in, one_number};
+ghost use Rattle.script.specs.Words.{words_left};
 
 use crate::complaints::Expected;
-use crate::numbers::{limited, only, only_small, small};
-use crate::settings::Event;
-use crate::words::{is, next_word};
+use crate::settings::{Event, Machine};
+use script::{Words, bare, is, limited, only};
 
-// The number that scripts have for the foreman; those between it and the last worker are no machine's.
-const FOREMAN: u8 = 64;
+const FOREMAN: u32 = 64;
 
 // None where the word begins no event.
-pub(crate) fn event(word: &[u8], text: &[u8]) -> Option<Result<Event, Expected>>
-    ensures { result ≡ event_of word.now (spaced text.now) }
+pub(crate) fn event(word: &[u8], words: Words<'_>) -> Option<Result<Event, Expected>>
+    ensures { result ≡ event_of word.now (words_left words.entry) }
 {
     if is(word, b"tick") {
-        Some(tick(text).ok_or(Expected::TickSettings))
+        Some(tick(words).ok_or(Expected::TickSettings))
     } else if is(word, b"up") {
-        Some(up(text).ok_or(Expected::UpSettings))
+        Some(up(words).ok_or(Expected::UpSettings))
     } else if is(word, b"cut") {
-        Some(cut(text).ok_or(Expected::CutSettings))
+        Some(cut(words).ok_or(Expected::CutSettings))
     } else if is(word, b"give") {
-        Some(bare(Event::Give, text).ok_or(Expected::NoWord))
+        Some(bare(Event::Give, words).ok_or(Expected::NoWord))
     } else if is(word, b"lose") {
-        Some(bare(Event::Lose, text).ok_or(Expected::NoWord))
+        Some(bare(Event::Lose, words).ok_or(Expected::NoWord))
     } else if is(word, b"twice") {
-        Some(bare(Event::Twice, text).ok_or(Expected::NoWord))
+        Some(bare(Event::Twice, words).ok_or(Expected::NoWord))
     } else if is(word, b"late") {
-        Some(late(text).ok_or(Expected::LateSettings))
+        Some(late(words).ok_or(Expected::LateSettings))
     } else if is(word, b"seed") {
-        Some(seed(text).ok_or(Expected::SeedSettings))
+        Some(seed(words).ok_or(Expected::SeedSettings))
     } else if is(word, b"until") {
-        Some(until(text).ok_or(Expected::UntilSettings))
+        Some(until(words).ok_or(Expected::UntilSettings))
     } else {
         None
     }
 }
 
-// An event with no settings.
-fn bare(event: Event, text: &[u8]) -> Option<Event>
-    ensures { result ≡ bare_of event (spaced text.now) }
+fn machine(word: &[u8]) -> Option<Machine>
+    ensures { result ≡ machine_in (number_in 0 64 word.now) }
 {
-    match next_word(text) {
-        None => Some(event),
-        Some(_) => None,
-    }
+    let number = limited(word, 0, FOREMAN)?;
+    Some(if number == FOREMAN {
+        Machine::Foreman
+    } else {
+        Machine::Worker(number as u8)
+    })
 }
 
-fn tick(text: &[u8]) -> Option<Event>
-    ensures { result ≡ tick_with (one_number 0 64 (spaced text.now)) }
+// The machine that is all that is left.
+fn only_machine(mut words: Words<'_>) -> Option<Machine>
+    ensures { result ≡ machine_in (one_number 0 64 (words_left words.entry)) }
 {
-    let machine = only_small(text, 0, FOREMAN)?;
+    let word = words.next()?;
+    bare(machine(word)?, words)
+}
+
+fn tick(words: Words<'_>) -> Option<Event>
+    ensures { result ≡ tick_with (machine_in (one_number 0 64 (words_left words.entry))) }
+{
+    let machine = only_machine(words)?;
     Some(Event::Tick(machine))
 }
 
-fn up(text: &[u8]) -> Option<Event>
-    ensures { result ≡ up_with (one_number 0 64 (spaced text.now)) }
+fn up(words: Words<'_>) -> Option<Event>
+    ensures { result ≡ up_with (machine_in (one_number 0 64 (words_left words.entry))) }
 {
-    let machine = only_small(text, 0, FOREMAN)?;
+    let machine = only_machine(words)?;
     Some(Event::Up(machine))
 }
 
-fn cut(text: &[u8]) -> Option<Event>
-    ensures { result ≡ cut_of (spaced text.now) }
+fn cut(mut words: Words<'_>) -> Option<Event>
+    ensures { result ≡ cut_of (words_left words.entry) }
 {
-    let (word, rest) = next_word(text)?;
-    let machine = small(word, 0, FOREMAN)?;
-    let keeps = match next_word(rest) {
+    let machine = machine(words.next()?)?;
+    let rest = words;
+    let keeps = match words.next() {
         None => None,
         Some(_) => Some(only(rest, 0, u32::MAX)?),
     };
     Some(Event::Cut { machine, keeps })
 }
 
-fn late(text: &[u8]) -> Option<Event>
-    ensures { result ≡ late_with (one_number 0 4294967295 (spaced text.now)) }
+fn late(words: Words<'_>) -> Option<Event>
+    ensures { result ≡ late_with (one_number 0 4294967295 (words_left words.entry)) }
 {
-    let behind = only(text, 0, u32::MAX)?;
+    let behind = only(words, 0, u32::MAX)?;
     Some(Event::Late(behind))
 }
 
-fn seed(text: &[u8]) -> Option<Event>
-    ensures { result ≡ seed_of (spaced text.now) }
+fn seed(mut words: Words<'_>) -> Option<Event>
+    ensures { result ≡ seed_of (words_left words.entry) }
 {
-    let (word, rest) = next_word(text)?;
-    let seed = limited(word, 0, u32::MAX)?;
-    let draws = only(rest, 0, u32::MAX)?;
+    let seed = limited(words.next()?, 0, u32::MAX)?;
+    let draws = only(words, 0, u32::MAX)?;
     Some(Event::Seed { seed, draws })
 }
 
-fn until(text: &[u8]) -> Option<Event>
-    ensures { result ≡ until_of (spaced text.now) }
+fn until(mut words: Words<'_>) -> Option<Event>
+    ensures { result ≡ until_of (words_left words.entry) }
 {
-    let (word, rest) = next_word(text)?;
+    let word = words.next()?;
     if !is(word, b"over") {
         return None;
     }
-    let ticks = only(rest, 0, u32::MAX)?;
+    let ticks = only(words, 0, u32::MAX)?;
     Some(Event::Until { ticks })
 }

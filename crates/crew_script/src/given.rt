@@ -1,226 +1,204 @@
-// What the lines of a script set, and which of them are bad.
+// What the lines of a script say, taken together, and which of them are bad.
 ghost use Rattle.std.specs.Prelude.{◌≡◌};
-ghost use Rattle.crew_script.specs.Script.{added_to, event_fault, fault_of, fitting, follows, is_machine, owner_fault, there, unsaid};
+ghost use Rattle.std.specs.Option.{option_map};
+ghost use Rattle.crew_script.specs.Given.{added_to, crew_fault, event_fault, fault_of, follows, is_machine, last_after, lone_fault, owner_fault, run_in, script_in, there, unsaid, workers_fault};
+ghost use Rattle.crew_script.specs.Told.{asked_in};
+ghost use Rattle.script.specs.Given.{given_or};
 
 use crate::complaints::Expected;
-use crate::settings::{Choice, Event, Span};
+use crate::settings::{Crew, Event, Machine, Run, Script, Span};
 use crate::statements::Statement;
+use script::{MOST_PLACES, say_once};
 
-const FOREMAN: u8 = 64;
+const MOST_WORKERS: u8 = 8;
 
-// The first of each setting, and the first place of the last stretch.
-#[derive(Clone, Copy)]
-pub(crate) struct Settings {
-    pub places: u32,
-    pub plan: Choice,
-    pub rounds: u32,
-    pub workers: u8,
-    pub first: u32,
-}
-
-// What the lines so far set, and which first words they had. A bad line counts as given and sets nothing.
+/// What the first line with each first word says, and the first place of the last stretch. A bad line counts as given too.
 #[derive(Clone, Copy)]
 pub(crate) struct Given {
-    pub settings: Settings,
-    pub places: bool,
-    pub plan: bool,
-    pub alone: bool,
-    pub workers: bool,
-    pub owner: bool,
+    pub lone: script::Given,
+    pub workers: Option<Result<u8, Expected>>,
+    pub last: Option<u32>,
 }
 
-// Nothing yet. Where nothing is set, places and workers are as many as there can be, so that no line is bad for that.
-pub(crate) fn nothing() -> Given
-    ensures { result ≡ unsaid }
-{
-    Given {
-        settings: Settings {
-            places: 1048576,
-            plan: Choice::Sum,
-            rounds: 0,
-            workers: 8,
-            first: 0,
-        },
-        places: false,
-        plan: false,
-        alone: false,
-        workers: false,
-        owner: false,
-    }
-}
-
-// Takes one more line.
-pub(crate) fn add(given: &mut Given, statement: Statement)
-    ensures { given.new ≡ added_to given.old statement }
-{
-    match statement {
-        Statement::Nothing => {}
-        Statement::Unknown => {}
-        Statement::Places(places) => {
-            if !given.places {
-                given.places = true;
-                if let Some(n) = places {
-                    given.settings.places = n;
-                }
-            }
-        }
-        Statement::Plan(plan) => {
-            if !given.plan {
-                given.plan = true;
-                if let Ok(choice) = plan {
-                    given.settings.plan = choice;
-                }
-            }
-        }
-        Statement::Alone(rounds) => {
-            if !given.alone {
-                given.alone = true;
-                if let Some(n) = rounds {
-                    given.settings.rounds = n;
-                }
-            }
-        }
-        Statement::Workers(workers) => {
-            if !given.workers {
-                given.workers = true;
-                if let Some(n) = workers {
-                    given.settings.workers = n;
-                }
-            }
-        }
-        Statement::Owner(span) => {
-            given.owner = true;
-            if let Some(span) = span {
-                given.settings.first = span.first;
-            }
-        }
-        Statement::Happens(_) => {}
-    }
-}
-
-// What should have stood in a line, where it is bad, after what was given before it; `all` is what all lines give.
-pub(crate) fn fault(all: &Given, given: &Given, statement: Statement) -> Option<Expected>
-    ensures { result ≡ fault_of all.now given.now statement }
-{
-    match statement {
-        Statement::Nothing => None,
-        Statement::Unknown => Some(Expected::FirstWord),
-        Statement::Places(places) => {
-            if given.places {
-                return Some(Expected::Once);
-            }
-            match places {
-                None => Some(Expected::PlaceCount),
-                Some(_) => None,
-            }
-        }
-        Statement::Plan(plan) => {
-            if given.plan {
-                return Some(Expected::Once);
-            }
-            match plan {
-                Ok(_) => None,
-                Err(expected) => Some(expected),
-            }
-        }
-        Statement::Alone(rounds) => {
-            if given.alone {
-                return Some(Expected::Once);
-            }
-            if given.workers {
-                return Some(Expected::OneRun);
-            }
-            match rounds {
-                None => Some(Expected::RoundCount),
-                Some(_) => None,
-            }
-        }
-        Statement::Workers(workers) => {
-            if given.workers {
-                return Some(Expected::CrewOnce);
-            }
-            if given.alone {
-                return Some(Expected::OneRun);
-            }
-            match workers {
-                None => Some(Expected::WorkerCount),
-                Some(_) => None,
-            }
-        }
-        Statement::Owner(span) => {
-            if !all.workers {
-                return Some(Expected::CrewLine);
-            }
-            owner_fault(all, given, span)
-        }
-        Statement::Happens(event) => {
-            if !all.workers {
-                return Some(Expected::CrewLine);
-            }
-            event_fault(all, event)
-        }
-    }
-}
-
-fn owner_fault(all: &Given, given: &Given, span: Option<Span>) -> Option<Expected>
-    ensures { result ≡ owner_fault all.now given.now span }
-{
-    let Some(span) = span else {
-        return Some(Expected::OwnerSettings);
-    };
-    if !rises(given, span)
-        || span.first >= all.settings.places
-        || span.worker >= all.settings.workers
+impl Given {
+    /// Before the first line.
+    pub(crate) fn nothing() -> Given
+        ensures { result ≡ unsaid }
     {
-        return Some(Expected::OwnerSettings);
+        Given {
+            lone: script::Given::nothing(),
+            workers: None,
+            last: None,
+        }
     }
-    None
-}
 
-// The first stretch begins at place 0, and any other above the one before.
-fn rises(given: &Given, span: Span) -> bool
-    ensures { result ≡ follows given.now span }
-{
-    if given.owner {
-        span.first > given.settings.first
-    } else {
-        span.first == 0
+    /// Takes one more line.
+    pub(crate) fn add(&mut self, statement: Statement)
+        ensures { self.new ≡ added_to self.old statement }
+    {
+        match statement {
+            Statement::Lone(said) => {
+                let _ = self.lone.add(said);
+            }
+            Statement::Workers(workers) => {
+                let _ = say_once(&mut self.workers, workers, Expected::CrewOnce);
+            }
+            Statement::Owner(span) => self.last = Some(last_after(self.last, span)),
+            Statement::Happens(_) => {}
+        }
     }
-}
 
-fn event_fault(all: &Given, event: Result<Event, Expected>) -> Option<Expected>
-    ensures { result ≡ event_fault all.now event }
-{
-    match event {
-        Err(expected) => Some(expected),
-        Ok(event) => {
-            if is_there(all.settings.workers, event) {
-                None
-            } else {
-                Some(Expected::Machine)
+    /// What should have stood in a line, where it is bad, after what was given before it; this is what all lines give.
+    pub(crate) fn judge(&self, given: &Given, statement: Statement) -> Result<(), Expected>
+        ensures { result ≡ fault_of self.now given.now statement }
+    {
+        match statement {
+            Statement::Lone(said) => judge_lone(*given, said),
+            Statement::Workers(workers) => judge_workers(*given, workers),
+            Statement::Owner(span) => {
+                self.needs_crew()?;
+                self.judge_stretch(given, span?)
+            }
+            Statement::Happens(event) => {
+                self.needs_crew()?;
+                self.judge_event(event?)
             }
         }
     }
+
+    fn needs_crew(&self) -> Result<(), Expected>
+        ensures { result ≡ crew_fault self.now }
+    {
+        if self.workers.is_none() {
+            return Err(Expected::CrewLine);
+        }
+        Ok(())
+    }
+
+    fn judge_stretch(&self, given: &Given, span: Span) -> Result<(), Expected>
+        ensures { result ≡ owner_fault self.now given.now span }
+    {
+        if !given.rises(span) || span.first >= self.places() || span.worker >= self.workers() {
+            return Err(Expected::OwnerSettings);
+        }
+        Ok(())
+    }
+
+    fn judge_event(&self, event: Event) -> Result<(), Expected>
+        ensures { result ≡ event_fault self.now event }
+    {
+        if !is_there(self.workers(), event) {
+            return Err(Expected::Machine);
+        }
+        Ok(())
+    }
+
+    // The first stretch begins at place 0, and any other above the one before.
+    fn rises(&self, span: Span) -> bool
+        ensures { result ≡ follows self.now span }
+    {
+        match self.last {
+            Some(last) => span.first > last,
+            None => span.first == 0,
+        }
+    }
+
+    // Where nothing is set there are as many as there can be, so that no line is bad for that.
+    fn places(&self) -> u32
+        ensures { result ≡ given_or 1048576 self.now.lone.places }
+    {
+        match self.lone.places {
+            Some(Ok(places)) => places,
+            _ => MOST_PLACES,
+        }
+    }
+
+    fn workers(&self) -> u8
+        ensures { result ≡ given_or 8 self.now.workers }
+    {
+        match self.workers {
+            Some(Ok(workers)) => workers,
+            _ => MOST_WORKERS,
+        }
+    }
+
+    /// Whether some line says who plays.
+    pub(crate) fn run(&self) -> Option<()>
+        ensures { result ≡ run_in self.now }
+    {
+        if self.lone.alone.is_some() || self.workers.is_some() {
+            Some(())
+        } else {
+            None
+        }
+    }
+
+    /// The script, where all that it needs is given and good.
+    pub(crate) fn script(&self, stretches: Vec<Span>, events: Vec<Event>) -> Option<Script>
+        ensures { option_map asked_in result ≡ script_in self.now stretches.items events.items }
+    {
+        let places = self.lone.places?.ok()?;
+        let plan = self.lone.plan?.ok()?;
+        let run = match self.workers {
+            None => Run::Alone {
+                rounds: self.lone.alone?.ok()?,
+            },
+            Some(workers) => Run::Crew(Crew {
+                workers: workers.ok()?,
+                stretches,
+                events,
+            }),
+        };
+        Some(Script { places, plan, run })
+    }
+}
+
+// A bad stretch counts as one, and leaves the last one's first place.
+fn last_after(last: Option<u32>, span: Result<Span, Expected>) -> u32
+    ensures { result ≡ last_after last span }
+{
+    match span {
+        Ok(span) => span.first,
+        Err(_) => last.unwrap_or(0),
+    }
+}
+
+fn judge_lone(mut given: Given, said: script::Statement) -> Result<(), Expected>
+    ensures { result ≡ lone_fault given said }
+{
+    let mixed = given.lone.alone.is_none() && given.workers.is_some();
+    if mixed && matches!(said, script::Statement::Alone(_)) {
+        return Err(Expected::OneRun);
+    }
+    given.lone.add(said)?;
+    Ok(())
+}
+
+fn judge_workers(mut given: Given, workers: Result<u8, Expected>) -> Result<(), Expected>
+    ensures { result ≡ workers_fault given workers }
+{
+    if given.workers.is_none() && given.lone.alone.is_some() {
+        return Err(Expected::OneRun);
+    }
+    say_once(&mut given.workers, workers, Expected::CrewOnce)
 }
 
 fn is_there(workers: u8, event: Event) -> bool
     ensures { result ≡ there workers event }
 {
     match event {
-        Event::Tick(machine) => is_machine(workers, machine),
-        Event::Up(machine) => is_machine(workers, machine),
-        Event::Cut { machine, keeps: _ } => is_machine(workers, machine),
-        Event::Give => true,
-        Event::Lose => true,
-        Event::Twice => true,
-        Event::Late(_) => true,
-        Event::Seed { seed: _, draws: _ } => true,
-        Event::Until { ticks: _ } => true,
+        Event::Tick(machine) | Event::Up(machine) | Event::Cut { machine, .. } => {
+            is_machine(workers, machine)
+        }
+        _ => true,
     }
 }
 
-fn is_machine(workers: u8, machine: u8) -> bool
+fn is_machine(workers: u8, machine: Machine) -> bool
     ensures { result ≡ is_machine workers machine }
 {
-    machine < workers || machine == FOREMAN
+    match machine {
+        Machine::Worker(worker) => worker < workers,
+        Machine::Foreman => true,
+    }
 }

@@ -1,21 +1,17 @@
-// The language of the program `rehearse`: the scripts that it reads, and the lines that it prints.
+// The language of scripts with crews: what it adds to the scripts of one machine, and the line of counts.
 #![tactic(auto)]
 
 mod complaints;
 mod draws;
 mod events;
 mod given;
-mod numbers;
-mod output;
 mod reader;
 mod settings;
 mod statements;
 mod tallies;
-mod words;
 
-pub use complaints::{Complaint, Expected};
-pub use draws::draw;
-pub use output::{head, line};
-pub use reader::{Reading, read};
-pub use settings::{Choice, Crew, Event, Run, Script, Span};
+pub use complaints::Expected;
+pub use draws::Draws;
+pub use reader::read;
+pub use settings::{Crew, Event, Machine, Run, Script, Span};
 pub use tallies::{Tally, counts};

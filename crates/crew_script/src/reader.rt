@@ -1,169 +1,92 @@
 // Scripts: read line by line, with what is wrong with each.
-ghost use Rattle.std.specs.Prelude.{◌≡◌, ◌+◌, ◌<◌, ◌||◌, ◌++◌, length, IfOk, MatchResult};
+ghost use Rattle.std.specs.Prelude.{◌≡◌, ◌<◌, ◌++◌, length, IfSome, MatchOption, MatchResult};
 ghost use Rattle.crew_script.specs.Proper.{Judged};
-ghost use Rattle.crew_script.specs.Script.{all_of, asked_by, events_of, lacking, missing, noted_at, outcome, outcome_of, players_by, stretches_of, weight_of};
-ghost use Rattle.crew_script.specs.Told.{players_in, told_by};
+ghost use Rattle.crew_script.specs.Script.{all_of, event_in, listed, missing, outcome_of, stretch_in, weight_of};
+ghost use Rattle.crew_script.specs.Told.{told_by};
 
-use crate::complaints::{Complaint, Expected};
-use crate::given::{Given, add, fault, nothing};
-use crate::settings::{Crew, Event, Run, Script, Span};
+use crate::complaints::Expected;
+use crate::given::Given;
+use crate::settings::{Event, Script, Span};
 use crate::statements::{Statement, parse};
-use crate::words::{Class, find};
+use script::{Complaint, Lines, Unread, lack, note};
 use std::alloc::{AllocError, Global};
 
-// A script, or what is wrong with it, by rising lines, and then what is missing.
-#[derive(Drop)]
-pub enum Reading {
-    Good(Script),
-    Bad(Vec<Complaint>),
-}
-
-// What all lines set. A line is judged by that too, so it is read first.
+// What all lines say. A line is judged by that too, so it is read first.
 fn survey(text: &[u8]) -> Given
     ensures { result ≡ all_of text.now }
 {
-    let mut given = nothing();
-    let mut start = 0;
-    loop {
-        let end = start + find(&text[start..], Class::Newline);
-        add(&mut given, parse(&text[start..end]));
-        if end == text.len() {
-            break;
-        }
-        start = end + 1;
+    let mut given = Given::nothing();
+    for (_, line) in Lines::of(text) {
+        given.add(parse(line));
     }
     given
 }
 
-// Only complaints, stretches and events take memory.
-pub fn read(heap: Global, text: &[u8]) -> Result<Reading, AllocError>
-    ensures told { MatchResult result (λ x. told_by x ≡ outcome_of text.now) (λ _. 0 < weight_of text.now) }
-    ensures judged { IfOk result (λ x. Judged text.now (told_by x)) }
+/// The script that a text is. Only complaints, stretches and events take memory.
+pub fn read(heap: Global, text: &[u8]) -> Result<Script, Unread<Expected>>
+    ensures told { MatchOption (told_by result) (0 < weight_of text.now) (λ o. o ≡ outcome_of text.now) }
+    ensures judged { IfSome (told_by result) (Judged text.now) }
 {
     let all = survey(text);
-    let mut given = nothing();
+    let mut given = Given::nothing();
     let mut complaints = Vec::new(heap);
     let mut stretches = Vec::new(heap);
     let mut events = Vec::new(heap);
-    let mut line = 1;
-    let mut start = 0;
-    loop {
-        let end = start + find(&text[start..], Class::Newline);
-        let statement = parse(&text[start..end]);
-        let expected = fault(&all, &given, statement);
-        note(&mut complaints, line, start, end, expected)?;
-        keep_stretch(&mut stretches, statement)?;
-        keep_event(&mut events, statement)?;
-        add(&mut given, statement);
-        if end == text.len() {
-            break;
-        }
-        start = end + 1;
-        line += 1;
+    for (position, line) in Lines::of(text) {
+        let statement = parse(line);
+        let judged = all.judge(&given, statement);
+        note(&mut complaints, Some(position), judged)?;
+        keep(&mut stretches, stretch(statement))?;
+        keep(&mut events, event(statement))?;
+        given.add(statement);
     }
-    finish(all, complaints, stretches, events)
+    lack_all(&mut complaints, &all)?;
+    match all.script(stretches, events) {
+        Some(script) if complaints.is_empty() => Ok(script),
+        _ => Err(Unread::Bad(complaints)),
+    }
 }
 
-fn note(
-    complaints: &mut Vec<Complaint>,
-    line: usize,
-    start: usize,
-    end: usize,
-    expected: Option<Expected>,
-) -> Result<(), AllocError>
-    ensures { MatchResult result (λ _. complaints.new.items ≡ complaints.old.items ++ noted_at line start end expected) (λ _. 0 < length (noted_at line start end expected)) }
+fn stretch(statement: Statement) -> Option<Span>
+    ensures { result ≡ stretch_in statement }
 {
-    if let Some(expected) = expected {
-        complaints.push(Complaint {
-            line,
-            expected,
-            start,
-            end,
-        })?;
+    match statement {
+        Statement::Owner(span) => span.ok(),
+        _ => None,
     }
-    Ok(())
 }
 
-fn keep_stretch(stretches: &mut Vec<Span>, statement: Statement) -> Result<(), AllocError>
-    ensures { MatchResult result (λ _. stretches.new.items ≡ stretches.old.items ++ stretches_of statement) (λ _. 0 < length (stretches_of statement)) }
+fn event(statement: Statement) -> Option<Event>
+    ensures { result ≡ event_in statement }
 {
-    if let Statement::Owner(Some(span)) = statement {
-        stretches.push(span)?;
+    match statement {
+        Statement::Happens(event) => event.ok(),
+        _ => None,
+    }
+}
+
+fn keep<T: Drop>(kept: &mut Vec<T>, said: Option<T>) -> Result<(), AllocError>
+    ensures { MatchResult result (λ _. kept.new.items ≡ kept.old.items ++ listed said) (λ _. 0 < length (listed said)) }
+{
+    if let Some(said) = said {
+        kept.push(said)?;
     }
     Ok(())
-}
-
-fn keep_event(events: &mut Vec<Event>, statement: Statement) -> Result<(), AllocError>
-    ensures { MatchResult result (λ _. events.new.items ≡ events.old.items ++ events_of statement) (λ _. 0 < length (events_of statement)) }
-{
-    if let Statement::Happens(Ok(event)) = statement {
-        events.push(event)?;
-    }
-    Ok(())
-}
-
-// Complains of a statement that no line gave.
-fn lack(complaints: &mut Vec<Complaint>, given: bool, expected: Expected) -> Result<(), AllocError>
-    ensures { MatchResult result (λ _. complaints.new.items ≡ complaints.old.items ++ lacking given expected) (λ _. 0 < length (lacking given expected)) }
-{
-    if !given {
-        complaints.push(Complaint {
-            line: 0,
-            expected,
-            start: 0,
-            end: 0,
-        })?;
-    }
-    Ok(())
-}
-
-fn has_run(all: &Given) -> bool
-    ensures { result ≡ all.now.alone || all.now.workers }
-{
-    all.alone || all.workers
 }
 
 // Complains of what no line gave.
-fn lack_all(complaints: &mut Vec<Complaint>, all: &Given) -> Result<(), AllocError>
+fn lack_all(complaints: &mut Vec<Complaint<Expected>>, all: &Given) -> Result<(), AllocError>
     ensures { MatchResult result (λ _. complaints.new.items ≡ complaints.old.items ++ missing all.now) (λ _. 0 < length (missing all.now)) }
 {
-    lack(complaints, all.places, Expected::PlacesLine)?;
-    lack(complaints, all.plan, Expected::PlanLine)?;
-    lack(complaints, has_run(all), Expected::RunLine)?;
-    Ok(())
-}
-
-fn finish(
-    all: Given,
-    mut complaints: Vec<Complaint>,
-    stretches: Vec<Span>,
-    events: Vec<Event>,
-) -> Result<Reading, AllocError>
-    ensures { MatchResult result (λ x. told_by x ≡ outcome (asked_by all stretches.items events.items) (complaints.items ++ missing all)) (λ _. 0 < length (missing all)) }
-{
-    lack_all(&mut complaints, &all)?;
-    if !complaints.is_empty() {
-        return Ok(Reading::Bad(complaints));
-    }
-    Ok(Reading::Good(Script {
-        places: all.settings.places,
-        plan: all.settings.plan,
-        run: players(&all, stretches, events),
-    }))
-}
-
-fn players(all: &Given, stretches: Vec<Span>, events: Vec<Event>) -> Run
-    ensures { players_in result ≡ players_by all.now stretches.items events.items }
-{
-    if all.workers {
-        Run::Crew(Crew {
-            workers: all.settings.workers,
-            stretches,
-            events,
-        })
-    } else {
-        Run::Alone {
-            rounds: all.settings.rounds,
-        }
-    }
+    lack(
+        complaints,
+        all.lone.places,
+        Expected::Lone(script::Expected::PlacesLine),
+    )?;
+    lack(
+        complaints,
+        all.lone.plan,
+        Expected::Lone(script::Expected::PlanLine),
+    )?;
+    lack(complaints, all.run(), Expected::RunLine)
 }

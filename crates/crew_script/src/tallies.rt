@@ -2,14 +2,15 @@
 ghost use Rattle.std.specs.Prelude.{◌≡◌, ◌+◌, ◌≤◌, true, ◌++◌, length, is_ok, if◌then◌else◌, vec_len, vec_capacity, decimal};
 ghost use Rattle.crew_script.specs.Counts.{counts_text};
 
-use crate::output::put_decimal;
+use itoa::Buffer;
+use script::put;
 use std::alloc::AllocError;
 
 // Room for seven words, seven numbers of ten digits and a newline.
 const COUNTS_ROOM: usize = 126;
 
-// How often each befell, the foreman's last attempt, and the last round of which it noted that all have a checkpoint.
-#[derive(Clone, Copy)]
+/// How often each befell, the foreman's last attempt, and the last round of which it noted that all have a checkpoint.
+#[derive(Clone, Copy, Debug, Default, PartialEq, Eq)]
 pub struct Tally {
     pub given: u32,
     pub lost: u32,
@@ -33,7 +34,7 @@ pub fn counts(out: &mut Vec<u8>, c: Tally) -> Result<(), AllocError>
     put_count(out, b", cut ", c.cut);
     put_count(out, b", attempts ", c.attempts);
     put_count(out, b", noted ", c.noted);
-    out.push_reserved(b'\n');
+    put(out, b"\n");
     Ok(())
 }
 
@@ -41,19 +42,8 @@ fn put_count(out: &mut Vec<u8>, label: &[u8], n: u32)
     requires { vec_len out.old + (length label.now + 10) ≤ vec_capacity out.old }
     ensures items { out.new.items ≡ out.old.items ++ (label.now ++ decimal n) }
     ensures len { vec_len out.new ≤ vec_len out.old + (length label.now + 10) }
-    ensures capacity { vec_capacity out.new ≡ vec_capacity out.old }
+    ensures capacity { vec_capacity out.old ≤ vec_capacity out.new }
 {
-    put_text(out, label);
-    put_decimal(out, n);
-}
-
-fn put_text(out: &mut Vec<u8>, text: &[u8])
-    requires { vec_len out.old + length text.now ≤ vec_capacity out.old }
-    ensures items { out.new.items ≡ out.old.items ++ text.now }
-    ensures len { vec_len out.new ≡ vec_len out.old + length text.now }
-    ensures capacity { vec_capacity out.new ≡ vec_capacity out.old }
-{
-    for byte in text {
-        out.push_reserved(*byte);
-    }
+    put(out, label);
+    put(out, Buffer::new().format(n).as_bytes());
 }

@@ -1,138 +1,27 @@
 // Plays a script, read from standard input, and prints what came of it.
 #![tactic(auto)]
 
-mod progress;
-
-use anyhow::anyhow;
-use meaning::{Place, Plan, Round};
-use plans::{Echo, Grid, Scramble, Sum};
-use progress::Progress;
-use rounds::{Alone, Fault, run};
-use script::{Choice, Complaint, Reading, Script};
-use std::io::{Read, Write};
+use meaning::Plan;
+use rehearsal::{Player, rehearse, with_plan};
+use script::Script;
 use std::process::ExitCode;
 
-const BLOCK: usize = 65536;
-
-// All of standard input.
-fn input(rt: &HostRuntime) -> anyhow::Result<Vec<u8>> {
-    let mut text = Vec::new(rt.alloc());
-    let mut block = vec![in rt.alloc(); 0u8; BLOCK]?;
-    let mut stdin = rt.stdin();
-    for _ in 0..u64::MAX {
-        let n = stdin.read(block.as_mut_slice())?;
-        if n == 0 {
-            break;
-        }
-        text.extend_from_slice(&block[0..n])?;
-    }
-    Ok(text)
+#[derive(Clone, Copy)]
+struct Alone<'a> {
+    rt: &'a HostRuntime,
+    script: &'a Script,
 }
 
-// What was wrong with a script, a line for each.
-fn complain(rt: &HostRuntime, text: &[u8], complaints: &[Complaint]) -> anyhow::Result<()> {
-    for c in complaints {
-        let line = c.line;
-        let expected = &c.expected;
-        if line == 0 {
-            eprintln!(rt; "rehearse: expected {expected}")?;
-        } else {
-            let found = found(text, c.start, c.end);
-            eprintln!(rt; "rehearse: line {line}: expected {expected}, found '{found}'")?;
-        }
-    }
-    Ok(())
-}
-
-// The line as text; where it is none, it isn't shown.
-fn found(text: &[u8], start: usize, end: usize) -> &str {
-    if start <= end && end <= text.len() {
-        std::str::from_utf8(&text[start..end]).unwrap_or("bytes that are no text")
-    } else {
-        ""
+impl<'a> Player for Alone<'a> {
+    fn play<P: Plan + Drop>(&self, plan: P, name: &str) -> anyhow::Result<()> {
+        rehearsal::play(self.rt, &plan, name, self.script.places, self.script.rounds)
     }
 }
 
-// The states, a line for each place, in blocks.
-fn show(rt: &HostRuntime, all: &Alone) -> anyhow::Result<()> {
-    let mut out = Vec::with_capacity(rt.alloc(), 2 * BLOCK)?;
-    let mut stdout = rt.stdout();
-    script::head(&mut out, all.round().0)?;
-    for v in 0..all.places() {
-        if let Some(state) = all.state(Place(v)) {
-            script::line(&mut out, v, all.rests(Place(v)), state)?;
-        }
-        if out.len() >= BLOCK {
-            stdout.write_all(out.as_slice())?;
-            out.clear();
-        }
-    }
-    stdout.write_all(out.as_slice())?;
-    stdout.flush()?;
-    Ok(())
-}
-
-fn play<P: Plan>(rt: &HostRuntime, plan: &P, name: &str, script: &Script) -> anyhow::Result<()> {
-    let places = script.places;
-    let mut progress = Progress::new(rt)?;
-    match run(
-        rt.alloc(),
-        plan,
-        places,
-        Round(script.rounds),
-        &mut progress,
-    ) {
-        Ok(all) => {
-            progress.end();
-            show(rt, &all)?;
-            let rounds = all.round().0;
-            let end = if all.is_over() { "over" } else { "not over" };
-            eprintln!(rt; "alone: {places} places, plan {name}, {rounds} rounds, {end}")?;
-            Ok(())
-        }
-        Err(Fault::Places) => Err(anyhow!("rehearse: more than 1048576 places")),
-        Err(Fault::Rounds) => Err(anyhow!("rehearse: more than 2147483647 rounds")),
-        Err(Fault::Memory) => Err(anyhow!("rehearse: no memory")),
-    }
-}
-
-fn play_script(rt: &HostRuntime, script: &Script) -> anyhow::Result<()> {
-    match script.plan {
-        Choice::Sum => play(rt, &Sum, "sum", script),
-        Choice::Echo => play(rt, &Echo, "echo", script),
-        Choice::Scramble { last } => {
-            let plan = Scramble {
-                places: script.places,
-                last,
-            };
-            play(rt, &plan, "scramble", script)
-        }
-        Choice::Grid { width, last } => match Grid::new(width, last) {
-            Some(plan) => play(rt, &plan, "grid", script),
-            None => Err(anyhow!("rehearse: a grid is 1 to 1048576 places wide")),
-        },
-    }
-}
-
-fn rehearse(rt: &HostRuntime) -> anyhow::Result<bool> {
-    let text = input(rt)?;
-    match script::read(rt.alloc(), text.as_slice())? {
-        Reading::Good(script) => {
-            play_script(rt, &script)?;
-            Ok(true)
-        }
-        Reading::Bad(complaints) => {
-            complain(rt, text.as_slice(), complaints.as_slice())?;
-            Ok(false)
-        }
-    }
-}
-
-// The status is 0 only where the script was played.
 fn main(rt: HostRuntime) -> anyhow::Result<ExitCode> {
-    if rehearse(&rt)? {
-        Ok(ExitCode::SUCCESS)
-    } else {
-        Ok(ExitCode::FAILURE)
-    }
+    rehearse(
+        &rt,
+        |heap, text| script::read(heap, text),
+        |script| with_plan(script.plan, script.places, &Alone { rt: &rt, script }),
+    )
 }

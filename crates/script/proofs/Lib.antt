@@ -1,6 +1,4 @@
 pub mod Splitting
-pub mod Figures
-pub mod Judging
-pub mod Printing
 pub mod Lining
+pub mod Once
 pub mod Propriety

@@ -1,164 +1,207 @@
 -- A text comes to a good script if and only if it is a proper one.
-use Rattle.std.proofs.Common.{◌≡◌, ℕ, ◌+◌, Bool, true, false, List, [], ◌∷◌, ◌++◌, map, length, IfOk, Some, None, Ok, Err, Option, Result, sym, refl, ◌∙◌, subst, arith, MatchResult}
+use Rattle.std.proofs.Common.{◌≡◌, ℕ, ◌<◌, List, [], ◌∷◌, ◌++◌, map, length, Some, None, Ok, Err, Option, Result, sym, refl, ap, ◌∙◌, subst, append-nil, arith, length-append}
+use Rattle.std.specs.List.{flat_map}
 use Rattle.script.specs.declared.settings.Choice.{Choice}
+use Rattle.script.specs.declared.settings.Choice.TheVariants.{Sum}
 use Rattle.script.specs.declared.settings.Script.{Script}
-use Rattle.script.specs.declared.complaints.Expected.{Expected}
-use Rattle.script.specs.declared.complaints.Expected.TheVariants.{PlacesLine, PlanLine, AloneLine}
 use Rattle.script.specs.declared.complaints.Complaint.{Complaint}
-use Rattle.script.specs.declared.reader.Given.{Given}
-use Rattle.script.specs.declared.reader.Reading.{Reading}
+use Rattle.script.specs.declared.complaints.Expected.{Expected}
+use Rattle.script.specs.declared.complaints.Expected.TheVariants.{Once, PlacesLine, PlanLine, AloneLine}
+use Rattle.script.specs.declared.given.Given.{Given}
+use Rattle.script.specs.declared.lines.Position.{Position}
 use Rattle.script.specs.declared.statements.Statement.{Statement}
 use Rattle.script.specs.declared.statements.Statement.TheVariants.{Nothing, Unknown, Places, Plan, Alone}
+use Rattle.script.specs.Given.{added_to, fault_of, script_in, script_with, settings_in, unsaid}
+use Rattle.script.specs.Lines.{lines_in}
+use Rattle.script.specs.Proper.{Judged, Known, Proper, alones_in, places_in, plans_in, statements_of}
+use Rattle.script.specs.Reading.{IsBad, bad, good, lacking, noted, outcome}
+use Rattle.script.specs.Saying.{said_in}
+use Rattle.script.specs.Script.{faults_from, given_by, missing, outcome_of}
 use Rattle.script.specs.Text.{lines_of}
-use Rattle.script.specs.Script.{added_to, fault_of, faults_from, given_by, lacking, missing, noted_at, outcome, outcome_of, good, said_in, told_by, unsaid}
-use Rattle.script.specs.Proper.{places_in, plans_in, alones_in, Known, Proper, Judged, statements_of}
+use Rattle.script.proofs.Lining.{map_placed}
+use Rattle.script.proofs.Once.{IsGood, at_once, end_once, good_once, on_once, said, said_end, set_is}
 
-abbrev mk : Script → (b p a : Bool) → Given
-mk sc b p a = record { script = sc; places = b; plan = p; alone = a }
+pub none_noted : {E : Type 0} (p : Option Position) (r : Result (Unit {0}) E) → noted p r ≡ [] → r ≡ Ok tt
+none_noted p (Ok u) h = refl
+none_noted p (Err e) h = absurd (let z : ◌≡◌ {A = ℕ} 0 1 = cc in omega arith)
 
--- what was said so far, where it was good
-abbrev filled : {X : Type 0} → Bool → X → List X
-filled true x = x ∷ []
-filled false x = []
-
-abbrev places_of : Given → List (Option ℕ)
-places_of g = filled g.places (Some g.script.places)
-
-abbrev plan_of : Given → List (Result Choice Expected)
-plan_of g = filled g.plan (Ok g.script.plan)
-
-abbrev alones_of : Given → List (Option ℕ)
-alones_of g = filled g.alone (Some g.script.rounds)
-
--- all that was said, and what is still said, is this
-abbrev Adds : Given → List Statement → List (Option ℕ) → List (Result Choice Expected) → List (Option ℕ) → Type 0
-Adds g ss ns ps rs = (places_of g ++ places_in ss ≡ ns) × (plan_of g ++ plans_in ss ≡ ps) × (alones_of g ++ alones_in ss ≡ rs) × Known ss
-
-module _ (ss : List Statement) (ns : List (Option ℕ)) (ps : List (Result Choice Expected)) (rs : List (Option ℕ)) where
-  at_places : (sc : Script) (b p a : Bool) (n : Option ℕ) → fault_of (mk sc b p a) (Places n) ≡ None → Adds (added_to (mk sc b p a) (Places n)) ss ns ps rs → Adds (mk sc b p a) (Places n ∷ ss) ns ps rs
-  at_places sc true p a n e t = absurd (let z : ◌≡◌ {A = ℕ} 0 1 = cc in omega arith)
-  at_places sc false p a None e t = absurd (let z : ◌≡◌ {A = ℕ} 0 1 = cc in omega arith)
-  at_places sc false p a (Some n) e t = t
-
-  at_plan : (sc : Script) (b p a : Bool) (c : Result Choice Expected) → fault_of (mk sc b p a) (Plan c) ≡ None → Adds (added_to (mk sc b p a) (Plan c)) ss ns ps rs → Adds (mk sc b p a) (Plan c ∷ ss) ns ps rs
-  at_plan sc b true a c e t = absurd (let z : ◌≡◌ {A = ℕ} 0 1 = cc in omega arith)
-  at_plan sc b false a (Err x) e t = absurd (let z : ◌≡◌ {A = ℕ} 0 1 = cc in omega arith)
-  at_plan sc b false a (Ok c) e t = t
-
-  at_alone : (sc : Script) (b p a : Bool) (n : Option ℕ) → fault_of (mk sc b p a) (Alone n) ≡ None → Adds (added_to (mk sc b p a) (Alone n)) ss ns ps rs → Adds (mk sc b p a) (Alone n ∷ ss) ns ps rs
-  at_alone sc b p true n e t = absurd (let z : ◌≡◌ {A = ℕ} 0 1 = cc in omega arith)
-  at_alone sc b p false None e t = absurd (let z : ◌≡◌ {A = ℕ} 0 1 = cc in omega arith)
-  at_alone sc b p false (Some n) e t = t
-
-  -- a line with no fault says what it adds
-  at_line : (g : Given) (st : Statement) → fault_of g st ≡ None → Adds (added_to g st) ss ns ps rs → Adds g (st ∷ ss) ns ps rs
-  at_line g Nothing e t = t
-  at_line g Unknown e t = absurd (let z : ◌≡◌ {A = ℕ} 0 1 = cc in omega arith)
-  at_line g (Places n) e t = at_places g.script g.places g.plan g.alone n e t
-  at_line g (Plan c) e t = at_plan g.script g.places g.plan g.alone c e t
-  at_line g (Alone n) e t = at_alone g.script g.places g.plan g.alone n e t
-
-none_noted : (n i j : ℕ) (e : Option Expected) → noted_at n i j e ≡ [] → e ≡ None
-none_noted n i j None h = refl
-none_noted n i j (Some e) h = absurd (let z : ◌≡◌ {A = ℕ} 0 1 = cc in omega arith)
-
-nil_parts : {X : Type 0} (xs ys : List X) → xs ++ ys ≡ [] → (xs ≡ []) × (ys ≡ [])
+pub nil_parts : {X : Type 0} (xs ys : List X) → xs ++ ys ≡ [] → (xs ≡ []) × (ys ≡ [])
 nil_parts [] ys e = (refl, e)
 nil_parts (x ∷ xs) ys e = absurd (let z : ◌≡◌ {A = ℕ} 0 1 = cc in omega arith)
 
-append_nil_at : {X : Type 0} (b : Bool) (x : X) → filled b x ++ [] ≡ filled b x
-append_nil_at true x = refl
-append_nil_at false x = refl
-
-faultless : (n i : ℕ) (g : Given) (ls : List (List ℕ)) → faults_from n i g ls ≡ [] → Adds g (map said_in ls) (places_of (given_by g ls)) (plan_of (given_by g ls)) (alones_of (given_by g ls))
-faultless n i g [] e = (append_nil_at g.places _, append_nil_at g.plan _, append_nil_at g.alone _, tt)
-faultless n i g (l ∷ ls) e =
-    let p = nil_parts (noted_at n i (i + length l) (fault_of g (said_in l))) (faults_from (n + 1) (i + length l + 1) (added_to g (said_in l)) ls) e in
-    at_line (map said_in ls) (places_of (given_by g (l ∷ ls))) (plan_of (given_by g (l ∷ ls))) (alones_of (given_by g (l ∷ ls))) g (said_in l)
-    (none_noted n i (i + length l) (fault_of g (said_in l)) p.0)
-    (faultless (n + 1) (i + length l + 1) (added_to g (said_in l)) ls p.1)
-
-given_all : (b : Bool) (x : Expected) → lacking b x ≡ [] → b ≡ true
-given_all true x e = refl
-given_all false x e = absurd (let z : ◌≡◌ {A = ℕ} 0 1 = cc in omega arith)
-
-no_complaint : (s t : Script) (cs : List Complaint) → outcome s cs ≡ good t → (s ≡ t) × (cs ≡ [])
+pub no_complaint : {S E : Type 0} (s t : S) (cs : List (Complaint E)) → outcome s cs ≡ good t → (s ≡ t) × (cs ≡ [])
 no_complaint s t [] e = (cc, refl)
 no_complaint s t (c ∷ cs) e = absurd (let z : ◌≡◌ {A = ℕ} 0 1 = cc in omega arith)
+
+-- the statements of lines, wherever these lie
+abbrev pub said_all : List (Position × List ℕ) → List Statement
+said_all ls = map (λ l. said_in l.1) ls
+
+-- all that was said, and what is still said, is this
+abbrev Adds : Given → List Statement → List (Result ℕ Expected) → List (Result Choice Expected) → List (Result ℕ Expected) → Type 0
+Adds g ss ns ps rs = (said g.places ++ flat_map places_in ss ≡ ns) × (said g.plan ++ flat_map plans_in ss ≡ ps) × (said g.alone ++ flat_map alones_in ss ≡ rs) × Known ss
+
+abbrev IsClean : Given → Type 0
+IsClean g = IsGood g.places × IsGood g.plan × IsGood g.alone
+
+-- a line with no fault says what it adds
+at_line : (ss : List Statement) (ns : List (Result ℕ Expected)) (ps : List (Result Choice Expected)) (rs : List (Result ℕ Expected)) (g : Given) (st : Statement) →
+    fault_of g st ≡ Ok tt → Adds (added_to g st) ss ns ps rs → Adds g (st ∷ ss) ns ps rs
+at_line ss ns ps rs g Nothing e t = (t.0, t.1, t.2, (tt, t.3))
+at_line ss ns ps rs g Unknown e t = absurd (let z : ◌≡◌ {A = ℕ} 0 1 = cc in omega arith)
+at_line ss ns ps rs g (Places n) e t = (at_once Once g.places n (flat_map places_in ss) ns e t.0, t.1, t.2, (tt, t.3))
+at_line ss ns ps rs g (Plan p) e t = (t.0, at_once Once g.plan p (flat_map plans_in ss) ps e t.1, t.2, (tt, t.3))
+at_line ss ns ps rs g (Alone n) e t = (t.0, t.1, at_once Once g.alone n (flat_map alones_in ss) rs e t.2, (tt, t.3))
+
+clean_line : (g : Given) (st : Statement) → fault_of g st ≡ Ok tt → IsClean g → IsClean (added_to g st)
+clean_line g Nothing e t = t
+clean_line g Unknown e t = t
+clean_line g (Places n) e t = (good_once Once g.places n e, t.1, t.2)
+clean_line g (Plan p) e t = (t.0, good_once Once g.plan p e, t.2)
+clean_line g (Alone n) e t = (t.0, t.1, good_once Once g.alone n e)
+
+faultless : (g : Given) (ls : List (Position × List ℕ)) → faults_from g ls ≡ [] → IsClean g →
+    Adds g (said_all ls) (said (given_by g ls).places) (said (given_by g ls).plan) (said (given_by g ls).alone) × IsClean (given_by g ls)
+faultless g [] e t = ((said_end g.places, said_end g.plan, said_end g.alone, tt), t)
+faultless g (l ∷ ls) e t =
+    let p = nil_parts (noted (Some l.0) (fault_of g (said_in l.1))) (faults_from (added_to g (said_in l.1)) ls) e in
+    let f = none_noted (Some l.0) (fault_of g (said_in l.1)) p.0 in
+    let q = faultless (added_to g (said_in l.1)) ls p.1 (clean_line g (said_in l.1) f t) in
+    (at_line (said_all ls) (said (given_by g (l ∷ ls)).places) (said (given_by g (l ∷ ls)).plan) (said (given_by g (l ∷ ls)).alone) g (said_in l.1) f q.0, q.1)
+
+-- what all lines give, where nothing is bad and nothing is missing
+module _ (text : List ℕ) (e : faults_from unsaid (lines_in text) ++ missing (given_by unsaid (lines_in text)) ≡ []) where
+  abbrev whole : Given
+  whole = given_by unsaid (lines_in text)
+
+  set : (whole.places ≡ Some (Ok (settings_in whole).places)) × (whole.plan ≡ Some (Ok (settings_in whole).plan)) × (whole.alone ≡ Some (Ok (settings_in whole).rounds))
+  set =
+      let p = nil_parts (faults_from unsaid (lines_in text)) (missing whole) e in
+      let m = nil_parts (lacking whole.places PlacesLine) (lacking whole.plan PlanLine ++ lacking whole.alone AloneLine) p.1 in
+      let r = nil_parts (lacking whole.plan PlanLine) (lacking whole.alone AloneLine) m.1 in
+      let t = faultless unsaid (lines_in text) p.0 (tt, tt, tt) in
+      (set_is 0 PlacesLine whole.places t.1.0 m.0, set_is Sum PlanLine whole.plan t.1.1 r.0, set_is 0 AloneLine whole.alone t.1.2 r.1)
+
+  pub script_set : script_in whole ≡ Some (settings_in whole)
+  script_set = λ i. script_with (set.0 i) (set.1 i) (set.2 i)
+
+  proper : Proper (statements_of text) (settings_in whole)
+  proper =
+      let p = nil_parts (faults_from unsaid (lines_in text)) (missing whole) e in
+      let t = faultless unsaid (lines_in text) p.0 (tt, tt, tt) in
+      let here : Proper (said_all (lines_in text)) (settings_in whole) =
+      record {
+        places = t.0.0 ∙ ap said set.0;
+        plan = t.0.1 ∙ ap said set.1;
+        alone = t.0.2 ∙ ap said set.2;
+        known = t.0.3;
+      } in
+      subst (λ ss. Proper ss (settings_in whole)) (map_placed said_in 1 0 (lines_of text)) here
 
 is_proper : (text : List ℕ) (s : Script) → outcome_of text ≡ good s → Proper (statements_of text) s
 unfolding outcome_of
 is_proper text s e =
-    let g : Given = given_by unsaid (lines_of text) in
-    let q = no_complaint g.script s (faults_from 1 0 unsaid (lines_of text) ++ missing g) e in
-    let p = nil_parts (faults_from 1 0 unsaid (lines_of text)) (missing g) q.1 in
-    let m = nil_parts (lacking g.places PlacesLine) (lacking g.plan PlanLine ++ lacking g.alone AloneLine) p.1 in
-    let r = nil_parts (lacking g.plan PlanLine) (lacking g.alone AloneLine) m.1 in
-    let t = faultless 1 0 unsaid (lines_of text) p.0 in
-    record {
-      places = t.0 ∙ (λ i. filled (given_all g.places PlacesLine m.0 i) (Some (q.0 i).places));
-      plan = t.1 ∙ (λ i. filled (given_all g.plan PlanLine r.0 i) (Ok (q.0 i).plan));
-      alone = t.2 ∙ (λ i. filled (given_all g.alone AloneLine r.1 i) (Some (q.0 i).rounds));
-      known = t.3;
-    }
+    let q = no_complaint (settings_in (given_by unsaid (lines_in text))) s (faults_from unsaid (lines_in text) ++ missing (given_by unsaid (lines_in text))) e in
+    subst (Proper (statements_of text)) q.0 (proper text q.1)
 
 -- all that is left to say fits what was said, for the settings s
 module _ (s : Script) where
   abbrev Leads : Given → List Statement → Type 0
-  Leads g ss = Adds g ss (Some s.places ∷ []) (Ok s.plan ∷ []) (Some s.rounds ∷ [])
+  Leads g ss = Adds g ss (Ok s.places ∷ []) (Ok s.plan ∷ []) (Ok s.rounds ∷ [])
 
-  abbrev Steps : Given → Statement → List Statement → Type 0
-  Steps g st ss = (fault_of g st ≡ None) × Leads (added_to g st) ss
+  abbrev all : Given
+  all = record { places = Some (Ok s.places); plan = Some (Ok s.plan); alone = Some (Ok s.rounds) }
 
-  on_places : (ss : List Statement) (sc : Script) (b p a : Bool) (n : Option ℕ) → Leads (mk sc b p a) (Places n ∷ ss) → Steps (mk sc b p a) (Places n) ss
-  on_places ss sc true p a n t = absurd (let h = t.0 in let z : ◌≡◌ {A = ℕ} 0 1 = cc in omega arith)
-  on_places ss sc false p a None t = absurd (let h = t.0 in let z : ◌≡◌ {A = ℕ} 0 1 = cc in omega arith)
-  on_places ss sc false p a (Some n) t = (refl, t)
+  on_line : (g : Given) (st : Statement) (ss : List Statement) → Leads g (st ∷ ss) → (fault_of g st ≡ Ok tt) × Leads (added_to g st) ss
+  on_line g Nothing ss t = (refl, (t.0, t.1, t.2, t.3.1))
+  on_line g Unknown ss t = absurd t.3.0
+  on_line g (Places n) ss t = let h = on_once Once g.places n (flat_map places_in ss) s.places t.0 in (h.0, (h.1, t.1, t.2, t.3.1))
+  on_line g (Plan p) ss t = let h = on_once Once g.plan p (flat_map plans_in ss) s.plan t.1 in (h.0, (t.0, h.1, t.2, t.3.1))
+  on_line g (Alone n) ss t = let h = on_once Once g.alone n (flat_map alones_in ss) s.rounds t.2 in (h.0, (t.0, t.1, h.1, t.3.1))
 
-  on_plan : (ss : List Statement) (sc : Script) (b p a : Bool) (c : Result Choice Expected) → Leads (mk sc b p a) (Plan c ∷ ss) → Steps (mk sc b p a) (Plan c) ss
-  on_plan ss sc b true a c t = absurd (let h = t.1 in let z : ◌≡◌ {A = ℕ} 0 1 = cc in omega arith)
-  on_plan ss sc b false a (Err x) t = absurd (let h = t.1 in let z : ◌≡◌ {A = ℕ} 0 1 = cc in omega arith)
-  on_plan ss sc b false a (Ok c) t = (refl, t)
-
-  on_alone : (ss : List Statement) (sc : Script) (b p a : Bool) (n : Option ℕ) → Leads (mk sc b p a) (Alone n ∷ ss) → Steps (mk sc b p a) (Alone n) ss
-  on_alone ss sc b p true n t = absurd (let h = t.2 in let z : ◌≡◌ {A = ℕ} 0 1 = cc in omega arith)
-  on_alone ss sc b p false None t = absurd (let h = t.2 in let z : ◌≡◌ {A = ℕ} 0 1 = cc in omega arith)
-  on_alone ss sc b p false (Some n) t = (refl, t)
-
-  on_line : (g : Given) (st : Statement) (ss : List Statement) → Leads g (st ∷ ss) → Steps g st ss
-  on_line g Nothing ss t = (refl, t)
-  on_line g Unknown ss t = absurd t.3
-  on_line g (Places n) ss t = on_places ss g.script g.places g.plan g.alone n t
-  on_line g (Plan c) ss t = on_plan ss g.script g.places g.plan g.alone c t
-  on_line g (Alone n) ss t = on_alone ss g.script g.places g.plan g.alone n t
-
-  at_end : (sc : Script) (b p a : Bool) → Leads (mk sc b p a) [] → mk sc b p a ≡ mk s true true true
-  at_end sc true true true t =
-      let n : sc.places ≡ s.places = let h = t.0 in cc in
-      let c : sc.plan ≡ s.plan = let h = t.1 in cc in
-      let r : sc.rounds ≡ s.rounds = let h = t.2 in cc in
-      λ i. mk (record { places = n i; plan = c i; rounds = r i }) true true true
-  at_end sc false p a t = absurd (let h = t.0 in let z : ◌≡◌ {A = ℕ} 0 1 = cc in omega arith)
-  at_end sc true false a t = absurd (let h = t.1 in let z : ◌≡◌ {A = ℕ} 0 1 = cc in omega arith)
-  at_end sc true true false t = absurd (let h = t.2 in let z : ◌≡◌ {A = ℕ} 0 1 = cc in omega arith)
-
-  leads : (n i : ℕ) (g : Given) (ls : List (List ℕ)) → Leads g (map said_in ls) → (faults_from n i g ls ≡ []) × (given_by g ls ≡ mk s true true true)
-  leads n i g [] t = (refl, at_end g.script g.places g.plan g.alone t)
-  leads n i g (l ∷ ls) t =
-      let p = on_line g (said_in l) (map said_in ls) t in
-      let q = leads (n + 1) (i + length l + 1) (added_to g (said_in l)) ls p.1 in
-      ((λ j. noted_at n i (i + length l) (p.0 j) ++ q.0 j), q.1)
+  leads : (g : Given) (ls : List (Position × List ℕ)) → Leads g (said_all ls) → (faults_from g ls ≡ []) × (given_by g ls ≡ all)
+  leads g [] t = (refl, λ i. record { places = end_once g.places s.places t.0 i; plan = end_once g.plan s.plan t.1 i; alone = end_once g.alone s.rounds t.2 i })
+  leads g (l ∷ ls) t =
+      let p = on_line g (said_in l.1) (said_all ls) t in
+      let q = leads (added_to g (said_in l.1)) ls p.1 in
+      ((λ j. noted (Some l.0) (p.0 j) ++ q.0 j), q.1)
 
   is_good : (text : List ℕ) → Proper (statements_of text) s → outcome_of text ≡ good s
   unfolding outcome_of
   is_good text p =
-      let q = leads 1 0 unsaid (lines_of text) (p.places, p.plan, p.alone, p.known) in
-      λ i. outcome (q.1 i).script (q.0 i ++ missing (q.1 i))
+      let r : Proper (said_all (lines_in text)) s = subst (λ ss. Proper ss s) (sym (map_placed said_in 1 0 (lines_of text))) p in
+      let q = leads unsaid (lines_in text) (r.places, r.plan, r.alone, r.known) in
+      λ i. outcome (settings_in (q.1 i)) (q.0 i ++ missing (q.1 i))
 
-judged : (text : List ℕ) → Judged text (outcome_of text)
+pub judged : (text : List ℕ) → Judged text (outcome_of text)
 judged text s = (is_proper text s, is_good s text)
 
--- so is what tells of its outcome
-pub judged_by : {E : Type 0} (Q : E → Type 0) (text : List ℕ) (r : Result Reading E) → MatchResult r (λ x. told_by x ≡ outcome_of text) Q → IfOk r (λ x. Judged text (told_by x))
-judged_by Q text (Ok x) e = subst (Judged text) (sym e) (judged text)
-judged_by Q text (Err y) e = tt
+settings_with : (n : Option (Result ℕ Expected)) (p : Option (Result Choice Expected)) (r : Option (Result ℕ Expected)) (s : Script) → script_with n p r ≡ Some s → settings_in (record { places = n; plan = p; alone = r }) ≡ s
+settings_with (Some (Ok n)) (Some (Ok p)) (Some (Ok r)) s e = cc
+settings_with None p r s e = absurd (let z : ◌≡◌ {A = ℕ} 0 1 = cc in omega arith)
+settings_with (Some (Err x)) p r s e = absurd (let z : ◌≡◌ {A = ℕ} 0 1 = cc in omega arith)
+settings_with (Some (Ok n)) None r s e = absurd (let z : ◌≡◌ {A = ℕ} 0 1 = cc in omega arith)
+settings_with (Some (Ok n)) (Some (Err x)) r s e = absurd (let z : ◌≡◌ {A = ℕ} 0 1 = cc in omega arith)
+settings_with (Some (Ok n)) (Some (Ok p)) None s e = absurd (let z : ◌≡◌ {A = ℕ} 0 1 = cc in omega arith)
+settings_with (Some (Ok n)) (Some (Ok p)) (Some (Err x)) s e = absurd (let z : ◌≡◌ {A = ℕ} 0 1 = cc in omega arith)
+
+pub good_is : {E : Type 0} (g : Given) (s : Script) (cs : List (Complaint E)) → script_in g ≡ Some s → length cs ≡ 0 → good s ≡ outcome (settings_in g) cs
+good_is g s [] e h = ap good (sym (settings_with g.places g.plan g.alone s e))
+good_is g s (c ∷ cs) e h = absurd (omega arith)
+
+pub bad_is : {S E : Type 0} (s : S) (cs : List (Complaint E)) → (cs ≡ [] → ⊥) → bad cs ≡ outcome s cs
+bad_is s [] ne = absurd (ne refl)
+bad_is s (c ∷ cs) ne = refl
+
+pub refused_is : {S E : Type 0} (s : S) (cs : List (Complaint E)) → 0 < length cs → IsBad (outcome s cs)
+refused_is s [] h = absurd (omega arith)
+refused_is s (c ∷ cs) h = tt
+
+-- where there are complaints the script is bad
+refused : (text : List ℕ) → 0 < length (faults_from unsaid (lines_in text) ++ missing (given_by unsaid (lines_in text))) → IsBad (outcome_of text)
+unfolding outcome_of
+refused text some = refused_is (settings_in (given_by unsaid (lines_in text))) (faults_from unsaid (lines_in text) ++ missing (given_by unsaid (lines_in text))) some
+
+-- what was found so far, and the lines that are left
+module _ (text : List ℕ) (g : Given) (ls : List (Position × List ℕ)) (cs : List (Complaint Expected)) (given : given_by g ls ≡ given_by unsaid (lines_in text)) (faults : cs ++ faults_from g ls ≡ faults_from unsaid (lines_in text)) where
+  pub bad_line : (l : Position × List ℕ) (ms : List (Position × List ℕ)) (r : Result (Unit {0}) Expected) → ls ≡ l ∷ ms → r ≡ fault_of g (said_in l.1) → 0 < length (noted (Some l.0) r) → IsBad (outcome_of text)
+  bad_line l ms r next e some =
+      refused text
+      (omega (
+        arith,
+        some,
+        ap (λ x. length (noted (Some l.0) x)) e,
+        ap (λ x. length (faults_from g x)) next,
+        ap length faults,
+        length-append cs (faults_from g ls),
+        length-append (noted (Some l.0) (fault_of g (said_in l.1))) (faults_from (added_to g (said_in l.1)) ms),
+        length-append (faults_from unsaid (lines_in text)) (missing (given_by unsaid (lines_in text))),
+      ))
+
+  module _ (none : ls ≡ []) where
+    all_given : g ≡ given_by unsaid (lines_in text)
+    all_given = sym (ap (given_by g) none) ∙ given
+
+    all_faults : cs ≡ faults_from unsaid (lines_in text)
+    all_faults = sym (append-nil cs) ∙ sym (ap (λ l. cs ++ faults_from g l) none) ∙ faults
+
+    pub lacks : 0 < length (missing g) → IsBad (outcome_of text)
+    lacks some = refused text (omega (arith, some, ap (λ x. length (missing x)) all_given, length-append (faults_from unsaid (lines_in text)) (missing (given_by unsaid (lines_in text)))))
+
+    module _ (ds : List (Complaint Expected)) (all_of : ds ≡ cs ++ missing g) where
+      all_is : ds ≡ faults_from unsaid (lines_in text) ++ missing (given_by unsaid (lines_in text))
+      all_is = all_of ∙ (λ i. all_faults i ++ missing (all_given i))
+
+      told_as : outcome (settings_in g) ds ≡ outcome_of text
+      unfolding outcome_of
+      told_as = λ i. outcome (settings_in (all_given i)) (all_is i)
+
+      pub told_good : (s : Script) → script_in g ≡ Some s → length ds ≡ 0 → good s ≡ outcome_of text
+      told_good s e h = good_is g s ds e h ∙ told_as
+
+      pub told_bad : (ds ≡ [] → ⊥) → bad ds ≡ outcome_of text
+      told_bad ne = bad_is (settings_in g) ds ne ∙ told_as
+
+      -- with no complaint all is set
+      pub told_set : ds ≡ [] → script_in g ≡ Some (settings_in g)
+      told_set empty = ap script_in all_given ∙ script_set text (sym all_is ∙ empty) ∙ ap (λ x. Some (settings_in x)) (sym all_given)

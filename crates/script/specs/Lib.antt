@@ -1,6 +1,9 @@
 pub mod Text
-pub mod Class
+pub mod Words
+pub mod Lines
 pub mod Saying
+pub mod Given
+pub mod Reading
 pub mod Script
 pub mod Output
 pub mod Wording

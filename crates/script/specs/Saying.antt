@@ -5,15 +5,15 @@ use Rattle.std.specs.Str.{bytes_eq}
 use Rattle.script.specs.declared.settings.Choice.{Choice}
 use Rattle.script.specs.declared.settings.Choice.TheVariants.{Sum, Echo, Scramble, Grid}
 use Rattle.script.specs.declared.complaints.Expected.{Expected}
-use Rattle.script.specs.declared.complaints.Expected.TheVariants.{PlanName, NoSettings, ScrambleSettings, GridSettings}
+use Rattle.script.specs.declared.complaints.Expected.TheVariants.{PlaceCount, PlanName, NoSettings, ScrambleSettings, GridSettings, RoundCount}
 use Rattle.script.specs.declared.statements.Statement.{Statement}
 use Rattle.script.specs.declared.statements.Statement.TheVariants.{Nothing, Unknown, Places, Plan, Alone}
-use Rattle.script.specs.Text.{number_in, one_number}
+use Rattle.script.specs.Text.{number_in, one_number, words_of}
 
--- a plan with no settings
-abbrev pub bare_of : Choice → List (List ℕ) → Option Choice
-bare_of p [] = Some p
-bare_of p (w ∷ ws) = None
+-- what has no settings
+abbrev pub bare_of : {X : Type 0} → X → List (List ℕ) → Option X
+bare_of x [] = Some x
+bare_of x (w ∷ ws) = None
 
 abbrev pub scramble_with : Option ℕ → Option Choice
 scramble_with None = None
@@ -28,9 +28,9 @@ abbrev pub grid_of : List (List ℕ) → Option Choice
 grid_of [] = None
 grid_of (w ∷ ws) = grid_with (number_in 1 1048576 w) (one_number 0 4294967295 ws)
 
-abbrev pub or_else : Expected → Option Choice → Result Choice Expected
+abbrev pub or_else : {X E : Type 0} → E → Option X → Result X E
 or_else e None = Err e
-or_else e (Some p) = Ok p
+or_else e (Some x) = Ok x
 
 -- the words after `plan`
 abbrev pub plan_of : List (List ℕ) → Result Choice Expected
@@ -46,7 +46,10 @@ plan_of (w ∷ ws) =
 abbrev pub statement_of : List (List ℕ) → Statement
 statement_of [] = Nothing
 statement_of (w ∷ ws) =
-    cond (bytes_eq w (codes "places")) (Places (one_number 0 1048576 ws))
+    cond (bytes_eq w (codes "places")) (Places (or_else PlaceCount (one_number 0 1048576 ws)))
     (cond (bytes_eq w (codes "plan")) (Plan (plan_of ws))
-    (cond (bytes_eq w (codes "alone")) (Alone (one_number 0 2147483647 ws))
+    (cond (bytes_eq w (codes "alone")) (Alone (or_else RoundCount (one_number 0 2147483647 ws)))
     Unknown))
+
+abbrev pub said_in : List ℕ → Statement
+said_in l = statement_of (words_of l)

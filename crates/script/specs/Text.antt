@@ -1,6 +1,7 @@
 -- How a script's bytes fall into lines and words, and what a number is.
 -- Assumes nothing.
 use Rattle.std.specs.Prelude.{ℕ, ◌+◌, ◌-◌, ◌*◌, Bool, true, cond, ◌&&◌, ◌||◌, List, [], ◌∷◌, length, Some, None, Option, ◌==◌, nat_le}
+use Rattle.std.specs.List.{before_first, slice_split}
 
 abbrev pub is_newline : ℕ → Bool
 is_newline c = c == 10
@@ -15,21 +16,6 @@ is_blank c = c == 32 || (c == 9 || c == 13)
 abbrev pub is_digit : ℕ → Bool
 is_digit c = nat_le 48 c && nat_le c 57
 
--- the bytes before the first at which a test holds
-abbrev pub before : (ℕ → Bool) → List ℕ → List ℕ
-before f [] = []
-before f (c ∷ cs) = cond (f c) [] (c ∷ before f cs)
-
--- one byte more in front of the first piece
-abbrev pub onto : ℕ → List (List ℕ) → List (List ℕ)
-onto c [] = (c ∷ []) ∷ []
-onto c (p ∷ ps) = (c ∷ p) ∷ ps
-
--- the pieces between the bytes at which a test holds, empty pieces too
-abbrev pub pieces : (ℕ → Bool) → List ℕ → List (List ℕ)
-pieces f [] = [] ∷ []
-pieces f (c ∷ cs) = cond (f c) ([] ∷ pieces f cs) (onto c (pieces f cs))
-
 abbrev pub non_empty : List (List ℕ) → List (List ℕ)
 non_empty [] = []
 non_empty ([] ∷ ps) = non_empty ps
@@ -37,14 +23,14 @@ non_empty ((c ∷ p) ∷ ps) = (c ∷ p) ∷ non_empty ps
 
 -- What follows the last newline is a line too; where it is empty it says nothing.
 abbrev pub lines_of : List ℕ → List (List ℕ)
-lines_of text = pieces is_newline text
+lines_of text = slice_split is_newline text
 
 abbrev pub spaced : List ℕ → List (List ℕ)
-spaced cs = non_empty (pieces is_blank cs)
+spaced cs = non_empty (slice_split is_blank cs)
 
 -- a line's words: a comment is cut off first, so that it also ends a word
 abbrev pub words_of : List ℕ → List (List ℕ)
-words_of l = spaced (before is_hash l)
+words_of l = spaced (before_first is_hash l)
 
 abbrev pub all_digits : List ℕ → Bool
 all_digits [] = true

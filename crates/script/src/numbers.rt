@@ -1,8 +1,9 @@
 // The numbers of a script.
-ghost use Rattle.std.specs.Prelude.{◌≡◌};
-ghost use Rattle.script.specs.Text.{number_in, number_of, one_number, spaced};
+ghost use Rattle.std.specs.Prelude.{◌≡◌, ◌≤◌, IfSome};
+ghost use Rattle.script.specs.Text.{number_in, number_of, one_number};
+ghost use Rattle.script.specs.Words.{words_left};
 
-use crate::words::next_word;
+use crate::words::Words;
 
 const MOST_DIGITS: usize = 10;
 
@@ -22,9 +23,10 @@ fn number(word: &[u8]) -> Option<u64>
     Some(n)
 }
 
-// A number from low to high.
-pub(crate) fn limited(word: &[u8], low: u32, high: u32) -> Option<u32>
-    ensures { result ≡ number_in low high word.now }
+/// A number from low to high.
+pub fn limited(word: &[u8], low: u32, high: u32) -> Option<u32>
+    ensures value { result ≡ number_in low high word.now }
+    ensures within { IfSome result (λ n. (low ≤ n) × (n ≤ high)) }
 {
     let n = number(word)?;
     if n < low as u64 || n > high as u64 {
@@ -33,13 +35,14 @@ pub(crate) fn limited(word: &[u8], low: u32, high: u32) -> Option<u32>
     Some(n as u32)
 }
 
-// The number from low to high that is all of the text.
-pub(crate) fn only(text: &[u8], low: u32, high: u32) -> Option<u32>
-    ensures { result ≡ one_number low high (spaced text.now) }
+/// The number from low to high that is all that is left.
+pub fn only(mut words: Words<'_>, low: u32, high: u32) -> Option<u32>
+    ensures value { result ≡ one_number low high (words_left words.entry) }
+    ensures within { IfSome result (λ n. (low ≤ n) × (n ≤ high)) }
 {
-    let (word, rest) = next_word(text)?;
-    if next_word(rest).is_some() {
-        return None;
+    let word = words.next()?;
+    match words.next() {
+        None => limited(word, low, high),
+        Some(_) => None,
     }
-    limited(word, low, high)
 }

@@ -1,7 +1,8 @@
 // What is printed of rounds and places.
 ghost use Rattle.std.specs.Prelude.{◌≡◌, ◌+◌, ◌*◌, ◌<◌, ◌≤◌, true, [], ◌∷◌, ◌++◌, length, is_ok, if◌then◌else◌, vec_len, vec_capacity, decimal};
-ghost use Rattle.script.specs.Output.{flag, head_text, hex_digit, line_text, state_text};
+ghost use Rattle.script.specs.Output.{head_text, hex_digit, line_text, state_text};
 
+use itoa::Buffer;
 use std::alloc::AllocError;
 
 // Room for `round `, ten digits and a newline.
@@ -19,9 +20,9 @@ pub fn head(out: &mut Vec<u8>, round: u32) -> Result<(), AllocError>
     ensures room { vec_len out.old + 17 ≤ vec_capacity out.old → is_ok result ≡ true }
 {
     out.reserve(HEAD_ROOM)?;
-    out.extend_from_slice(b"round ")?;
-    put_decimal(out, round);
-    out.push_reserved(b'\n');
+    put(out, b"round ");
+    put(out, Buffer::new().format(round).as_bytes());
+    put(out, b"\n");
     Ok(())
 }
 
@@ -34,31 +35,22 @@ pub fn line(out: &mut Vec<u8>, place: u32, rests: bool, state: &[u8]) -> Result<
         return Err(AllocError);
     }
     out.reserve(LINE_ROOM + 2 * state.len())?;
-    put_decimal(out, place);
-    out.push_reserved(b' ');
-    out.push_reserved(rest_mark(rests));
-    out.push_reserved(b' ');
+    put(out, Buffer::new().format(place).as_bytes());
+    put(out, if rests { b" 1 " } else { b" 0 " });
     put_state(out, state);
-    out.push_reserved(b'\n');
+    put(out, b"\n");
     Ok(())
 }
 
-fn rest_mark(rests: bool) -> u8
-    ensures { result ∷ [] ≡ flag rests }
+// By hand, in place of `write!`: no proof says that `write!` succeeds where there is room, as `head` and `line` promise.
+/// Appends a text for which there is room.
+pub fn put(out: &mut Vec<u8>, text: &[u8])
+    requires { vec_len out.old + length text.now ≤ vec_capacity out.old }
+    ensures items { out.new.items ≡ out.old.items ++ text.now }
+    ensures len { vec_len out.new ≡ vec_len out.old + length text.now }
+    ensures capacity { vec_capacity out.old ≤ vec_capacity out.new }
 {
-    if rests { b'1' } else { b'0' }
-}
-
-fn put_decimal(out: &mut Vec<u8>, n: u32)
-    requires { vec_len out.old + length (decimal n) ≤ vec_capacity out.old }
-    ensures items { out.new.items ≡ out.old.items ++ decimal n }
-    ensures len { vec_len out.new ≡ vec_len out.old + length (decimal n) }
-    ensures capacity { vec_capacity out.new ≡ vec_capacity out.old }
-{
-    if n >= 10 {
-        put_decimal(out, n / 10);
-    }
-    out.push_reserved(b'0' + (n % 10) as u8);
+    out.extend_from_slice(text).unwrap();
 }
 
 // In hexadecimal, or `-` where it is empty.

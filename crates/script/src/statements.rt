@@ -1,85 +1,85 @@
 // What a line says.
 ghost use Rattle.std.specs.Prelude.{◌≡◌};
 ghost use Rattle.script.specs.Saying.{bare_of, grid_of, plan_of, scramble_with, statement_of};
-ghost use Rattle.script.specs.Text.{one_number, spaced, words_of};
+ghost use Rattle.script.specs.Text.{one_number, words_of};
+ghost use Rattle.script.specs.Words.{words_left};
 
 use crate::complaints::Expected;
 use crate::numbers::{limited, only};
 use crate::settings::Choice;
-use crate::words::{is, next_word, uncommented};
+use crate::words::{Words, is};
 
-const MOST_PLACES: u32 = 1048576;
+/// More places than these are refused.
+pub const MOST_PLACES: u32 = 1048576;
 
 const MOST_ROUNDS: u32 = 2147483647;
 
-// A line with no words says nothing. What follows the first word may be bad.
-#[derive(Clone, Copy)]
-pub(crate) enum Statement {
+/// A line with no words says nothing. What follows the first word may be bad: then it is what should have stood there.
+#[derive(Clone, Copy, Debug, PartialEq, Eq)]
+pub enum Statement {
     Nothing,
     Unknown,
-    Places(Option<u32>),
+    Places(Result<u32, Expected>),
     Plan(Result<Choice, Expected>),
-    Alone(Option<u32>),
+    Alone(Result<u32, Expected>),
 }
 
-pub(crate) fn parse(line: &[u8]) -> Statement
+pub fn parse(line: &[u8]) -> Statement
     ensures { result ≡ statement_of (words_of line.now) }
 {
-    let Some((word, rest)) = next_word(uncommented(line)) else {
+    let mut words = Words::of(line);
+    let Some(word) = words.next() else {
         return Statement::Nothing;
     };
     if is(word, b"places") {
-        Statement::Places(only(rest, 0, MOST_PLACES))
+        Statement::Places(only(words, 0, MOST_PLACES).ok_or(Expected::PlaceCount))
     } else if is(word, b"plan") {
-        Statement::Plan(plan(rest))
+        Statement::Plan(plan(words))
     } else if is(word, b"alone") {
-        Statement::Alone(only(rest, 0, MOST_ROUNDS))
+        Statement::Alone(only(words, 0, MOST_ROUNDS).ok_or(Expected::RoundCount))
     } else {
         Statement::Unknown
     }
 }
 
-fn plan(text: &[u8]) -> Result<Choice, Expected>
-    ensures { result ≡ plan_of (spaced text.now) }
+fn plan(mut words: Words<'_>) -> Result<Choice, Expected>
+    ensures { result ≡ plan_of (words_left words.entry) }
 {
-    let Some((name, rest)) = next_word(text) else {
-        return Err(Expected::PlanName);
-    };
+    let name = words.next().ok_or(Expected::PlanName)?;
     if is(name, b"sum") {
-        bare(Choice::Sum, rest).ok_or(Expected::NoSettings)
+        bare(Choice::Sum, words).ok_or(Expected::NoSettings)
     } else if is(name, b"echo") {
-        bare(Choice::Echo, rest).ok_or(Expected::NoSettings)
+        bare(Choice::Echo, words).ok_or(Expected::NoSettings)
     } else if is(name, b"scramble") {
-        scramble(rest).ok_or(Expected::ScrambleSettings)
+        scramble(words).ok_or(Expected::ScrambleSettings)
     } else if is(name, b"grid") {
-        grid(rest).ok_or(Expected::GridSettings)
+        grid(words).ok_or(Expected::GridSettings)
     } else {
         Err(Expected::PlanName)
     }
 }
 
-// A plan with no settings.
-fn bare(choice: Choice, text: &[u8]) -> Option<Choice>
-    ensures { result ≡ bare_of choice (spaced text.now) }
+/// What has no settings: no word may be left.
+pub fn bare<T: Copy>(named: T, mut words: Words<'_>) -> Option<T>
+    ensures { result ≡ bare_of named (words_left words.entry) }
 {
-    match next_word(text) {
-        None => Some(choice),
+    match words.next() {
+        None => Some(named),
         Some(_) => None,
     }
 }
 
-fn scramble(text: &[u8]) -> Option<Choice>
-    ensures { result ≡ scramble_with (one_number 0 4294967295 (spaced text.now)) }
+fn scramble(words: Words<'_>) -> Option<Choice>
+    ensures { result ≡ scramble_with (one_number 0 4294967295 (words_left words.entry)) }
 {
-    let last = only(text, 0, u32::MAX)?;
+    let last = only(words, 0, u32::MAX)?;
     Some(Choice::Scramble { last })
 }
 
-fn grid(text: &[u8]) -> Option<Choice>
-    ensures { result ≡ grid_of (spaced text.now) }
+fn grid(mut words: Words<'_>) -> Option<Choice>
+    ensures { result ≡ grid_of (words_left words.entry) }
 {
-    let (word, rest) = next_word(text)?;
-    let width = limited(word, 1, MOST_PLACES)?;
-    let last = only(rest, 0, u32::MAX)?;
+    let width = limited(words.next()?, 1, MOST_PLACES)?;
+    let last = only(words, 0, u32::MAX)?;
     Some(Choice::Grid { width, last })
 }

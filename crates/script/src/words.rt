@@ -1,69 +1,62 @@
 // A line's words.
-ghost use Rattle.std.specs.Prelude.{◌≡◌, ◌≤◌, [], ◌∷◌, length, MatchOption};
-ghost use Rattle.script.specs.Class.{is_a};
-ghost use Rattle.script.specs.Text.{before, is_hash, spaced};
+ghost use Rattle.std.specs.Prelude.{◌≡◌};
+ghost use Rattle.std.specs.Iterator.{YieldsFirstRef, item_count};
+ghost use Rattle.std.specs.List.{before_first};
+ghost use Rattle.script.specs.Text.{is_blank, is_hash, words_of};
+ghost use Rattle.script.specs.Words.{words_left};
 ghost use Rattle.std.specs.Str.{bytes_eq};
 
-// The bytes that are looked for: those that end a line or begin a comment, those between words, and all others.
-#[derive(Clone, Copy)]
-pub(crate) enum Class {
-    Newline,
-    Hash,
-    Blank,
-    Solid,
-}
-
 fn is_blank(byte: u8) -> bool
-    ensures { result ≡ is_a Class.Blank byte }
+    ensures { result ≡ is_blank byte }
 {
     byte == b' ' || byte == b'\t' || byte == b'\r'
 }
 
-fn is_a(class: Class, byte: u8) -> bool
-    ensures { result ≡ is_a class byte }
+fn uncommented(line: &[u8]) -> &[u8]
+    ensures { result.now ≡ before_first is_hash line.now }
 {
-    match class {
-        Class::Newline => byte == b'\n',
-        Class::Hash => byte == b'#',
-        Class::Blank => is_blank(byte),
-        Class::Solid => !is_blank(byte),
+    match line.iter().position(|byte| *byte == b'#') {
+        Some(end) => &line[..end],
+        None => line,
     }
 }
 
-// The index of the first byte of a class, or the text's length where there is none.
-pub(crate) fn find(text: &[u8], class: Class) -> usize
-    ensures value { result ≡ length (before (is_a class) text.now) }
-    ensures within { result ≤ length text.now }
-{
-    for (i, byte) in text.iter().enumerate() {
-        if is_a(class, *byte) {
-            return i;
+/// The words of a line that are left.
+#[derive(Clone, Copy)]
+pub struct Words<'a> {
+    rest: &'a [u8],
+}
+
+impl<'a> Words<'a> {
+    pub fn of(line: &'a [u8]) -> Words<'a>
+        ensures { words_left result ≡ words_of line.now }
+    {
+        Words {
+            rest: uncommented(line),
         }
     }
-    text.len()
 }
 
-pub(crate) fn uncommented(line: &[u8]) -> &[u8]
-    ensures { result.now ≡ before is_hash line.now }
-{
-    let end = find(line, Class::Hash);
-    &line[..end]
-}
+impl<'a> Iterator for Words<'a> {
+    type Item = &'a [u8];
 
-// The first word, and what follows it.
-pub(crate) fn next_word(text: &[u8]) -> Option<(&[u8], &[u8])>
-    ensures { MatchOption result (spaced text.now ≡ []) (λ p. spaced text.now ≡ p.0.now ∷ spaced p.1.now) }
-{
-    let start = find(text, Class::Solid);
-    if start == text.len() {
-        return None;
+    ghost next_gives = { YieldsFirstRef words_left };
+
+    ghost remaining = { item_count words_left };
+
+    fn next(&mut self) -> Option<&'a [u8]> {
+        let start = self.rest.iter().position(|byte| !is_blank(*byte))?;
+        let rest = &self.rest[start..];
+        let end = rest
+            .iter()
+            .position(|byte| is_blank(*byte))
+            .unwrap_or(rest.len());
+        self.rest = &rest[end..];
+        Some(&rest[..end])
     }
-    let rest = &text[start..];
-    let end = find(rest, Class::Blank);
-    Some((&rest[..end], &rest[end..]))
 }
 
-pub(crate) fn is(word: &[u8], name: &[u8]) -> bool
+pub fn is(word: &[u8], name: &[u8]) -> bool
     ensures { result ≡ bytes_eq word.now name.now }
 {
     word == name

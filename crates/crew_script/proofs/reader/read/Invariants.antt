@@ -1,15 +1,13 @@
-use Rattle.std.proofs.Common.{◌≡◌, ◌+◌, ◌-◌, ◌≤◌, ◌++◌, map, length, drop, vec_items}
-use Rattle.crew_script.specs.Script.{each, events_of, faults_from, said_in, statements_of, stretches_of, unsaid}
-use Rattle.crew_script.specs.Text.{lines_of}
+use Rattle.std.proofs.Common.{◌≡◌, ◌++◌, vec_items}
+use Rattle.std.specs.List.{flat_map}
+use Rattle.script.specs.Lines.{lines_in, lines_left}
+use Rattle.crew_script.specs.Given.{unsaid}
+use Rattle.crew_script.specs.Script.{events_of, faults_from, stretches_of}
+use Rattle.crew_script.proofs.Propriety.{said_all}
 use Rattle.crew_script.proofs.reader.read.Given as goal
 
-abbrev pub invariant-loop-events : goal.invariant-loop-events
-invariant-loop-events l =
-    (l.start ≤ length l.text)
-    × (l.line ≤ l.start + 1)
-    × (vec_items l.complaints ++ faults_from l.all l.line l.start l.given (lines_of (drop l.start l.text)) ≡ faults_from l.all 1 0 unsaid (lines_of l.text))
-    × (vec_items l.stretches ++ each stretches_of (map said_in (lines_of (drop l.start l.text))) ≡ each stretches_of (statements_of l.text))
-    × (vec_items l.events ++ each events_of (map said_in (lines_of (drop l.start l.text))) ≡ each events_of (statements_of l.text))
-
-abbrev pub decreases-loop-events : goal.decreases-loop-events
-decreases-loop-events l = length l.text - l.start
+abbrev pub invariant-loop-position : goal.invariant-loop-position
+invariant-loop-position l =
+    (vec_items l.complaints ++ faults_from l.all l.given (lines_left l.position-iterator) ≡ faults_from l.all unsaid (lines_in l.text))
+    × (vec_items l.stretches ++ flat_map stretches_of (said_all (lines_left l.position-iterator)) ≡ flat_map stretches_of (said_all (lines_in l.text)))
+    × (vec_items l.events ++ flat_map events_of (said_all (lines_left l.position-iterator)) ≡ flat_map events_of (said_all (lines_in l.text)))

@@ -1,10 +1,7 @@
-use Rattle.std.proofs.Common.{◌≡◌, ◌-◌, ◌≤◌, length, drop}
+use Rattle.std.proofs.Common.{◌≡◌}
+use Rattle.script.specs.Lines.{lines_left}
 use Rattle.crew_script.specs.Script.{all_of, given_by}
-use Rattle.crew_script.specs.Text.{lines_of}
 use Rattle.crew_script.proofs.reader.survey.Given as goal
 
-abbrev pub invariant-loop-end : goal.invariant-loop-end
-invariant-loop-end l = (l.start ≤ length l.text) × (given_by l.given (lines_of (drop l.start l.text)) ≡ all_of l.text)
-
-abbrev pub decreases-loop-end : goal.decreases-loop-end
-decreases-loop-end l = length l.text - l.start
+abbrev pub invariant-loop-line : goal.invariant-loop-line
+invariant-loop-line l = given_by l.given (lines_left l.line-iterator) ≡ all_of l.text

@@ -1,5 +1,0 @@
-use Rattle.std.proofs.Common.{◌≡◌, ◌+◌, ◌++◌, take, vec_items, vec_len, vec_capacity}
-use Rattle.crew_script.proofs.tallies.put_text.Given as goal
-
-abbrev pub invariant-loop-byte : goal.invariant-loop-byte
-invariant-loop-byte l = (vec_items l.out ≡ vec_items l.initial.out ++ take l.byte-index l.text) × (vec_len l.out ≡ vec_len l.initial.out + l.byte-index) × (vec_capacity l.out ≡ vec_capacity l.initial.out)

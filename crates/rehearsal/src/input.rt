@@ -1,0 +1,64 @@
+// A script from standard input, and what was wrong with it.
+use script::{Complaint, Position, Unread};
+use std::alloc::{AllocError, Global};
+use std::fmt::Display;
+use std::io::Read;
+use std::process::ExitCode;
+
+fn input(rt: &HostRuntime) -> anyhow::Result<Vec<u8>> {
+    let mut text = Vec::new(rt.alloc());
+    rt.stdin().read_to_end(&mut text)?;
+    Ok(text)
+}
+
+// The line as text; where it is none, it isn't shown.
+fn found(text: &[u8], position: Position) -> &str {
+    match text.get(position.start..position.end) {
+        Some(line) => std::str::from_utf8(line).unwrap_or("bytes that are no text"),
+        None => "",
+    }
+}
+
+// A line for each.
+fn complain<E: Display>(
+    rt: &HostRuntime,
+    text: &[u8],
+    complaints: &[Complaint<E>],
+) -> anyhow::Result<()> {
+    for complaint in complaints {
+        let expected = &complaint.expected;
+        match complaint.position {
+            None => eprintln!(rt; "rehearse: expected {expected}")?,
+            Some(position) => {
+                let line = position.line;
+                let found = found(text, position);
+                eprintln!(rt; "rehearse: line {line}: expected {expected}, found '{found}'")?;
+            }
+        }
+    }
+    Ok(())
+}
+
+/// Plays what is read from standard input. The status is 0 only where the script was played.
+pub fn rehearse<S, E, R, P>(rt: &HostRuntime, read: R, play: P) -> anyhow::Result<ExitCode>
+where
+    S: Drop,
+    E: Display + Drop,
+    R: FnOnce(Global, &[u8]) -> Result<S, Unread<E>>,
+    P: FnOnce(&S) -> anyhow::Result<()>,
+    requires reads { R.IsAlwaysCallable read }
+    requires plays { P.IsAlwaysCallable play }
+{
+    let text = input(rt)?;
+    match read(rt.alloc(), text.as_slice()) {
+        Ok(script) => {
+            play(&script)?;
+            Ok(ExitCode::SUCCESS)
+        }
+        Err(Unread::Bad(complaints)) => {
+            complain(rt, text.as_slice(), complaints.as_slice())?;
+            Ok(ExitCode::FAILURE)
+        }
+        Err(Unread::Memory) => Err(AllocError.into()),
+    }
+}

@@ -1,0 +1,15 @@
+// What both programs do: read a script, complain of a bad one, and play one machine alone.
+#![tactic(auto)]
+
+mod alone;
+mod blocks;
+mod input;
+mod named;
+mod progress;
+#[cfg(test)]
+mod tests;
+
+pub use alone::play;
+pub use blocks::Blocks;
+pub use input::rehearse;
+pub use named::{Player, with_plan};

@@ -51,6 +51,10 @@ pub record Covers (n m : ℕ) (ss : List Stretch) : Type 0 where
 abbrev pub Misplaced : (n m : ℕ) → List Stretch → (i : ℕ) → Type 0
 Misplaced n m ss i = ((i < length ss) × (stands n m ss i ≡ false)) ⊎ ((i ≡ 0) × (length ss ≡ 0) × (0 < n))
 
+-- a stretch that cannot stand there, and for no other reason
+abbrev pub StretchRefused : (n m : ℕ) → List Stretch → PartitionFault → Type 0
+StretchRefused n m ss e = (i : ℕ) × (e ≡ Stretches i) × Misplaced n m ss i
+
 -- where worker w's places begin when n places are shared out evenly among m
 abbrev pub share_start : (n m w : ℕ) → ℕ
 share_start n m w = w * n / m

@@ -13,6 +13,6 @@ mod tests;
 pub use foreman::{Foreman, OpenFault, Paced};
 pub use journal::{Journal, Note, Owed, Record, Share, is_due};
 pub use message::{Anew, Batch, Go, Hello, Kind, Parcel, PutBy, Ready};
-pub use numbers::{ATTEMPTS, Attempt, Line, PLACES, ROUNDS, WORKERS};
+pub use numbers::{ATTEMPTS, Attempt, Line};
 pub use outcome::{Outcome, Refusal};
 pub use partition::{Partition, PartitionFault, Stretch};

@@ -2,7 +2,7 @@
 use crate::numbers::{Attempt, Line};
 use meaning::{Letters, Round};
 
-// A worker: the letters that its places sent to the places of another in a round.
+/// A worker: the letters that its places sent to the places of another in a round.
 #[derive(Clone, Copy, Debug, PartialEq, Eq)]
 pub struct Batch {
     pub attempt: Attempt,
@@ -11,7 +11,7 @@ pub struct Batch {
     pub to: Line,
 }
 
-// A worker: it has done its round and has a batch of it from each; and whether its places rest then and no letter came.
+/// A worker: it has done its round and has a batch of it from each; and whether its places rest then and no letter came.
 #[derive(Clone, Copy, Debug, PartialEq, Eq)]
 pub struct Ready {
     pub attempt: Attempt,
@@ -19,7 +19,7 @@ pub struct Ready {
     pub over: bool,
 }
 
-// The foreman: go on to that round; the round of which all have a checkpoint; and whether it is over.
+/// The foreman: go on to that round; the round of which all have a checkpoint; and whether it is over.
 #[derive(Clone, Copy, Debug, PartialEq, Eq)]
 pub struct Go {
     pub attempt: Attempt,
@@ -28,27 +28,27 @@ pub struct Go {
     pub over: bool,
 }
 
-// The foreman: begin that attempt, from the checkpoint of that round.
+/// The foreman: begin that attempt, from the checkpoint of that round.
 #[derive(Clone, Copy, Debug, PartialEq, Eq)]
 pub struct Anew {
     pub attempt: Attempt,
     pub round: Round,
 }
 
-// A worker: it has a checkpoint of that round.
+/// A worker: it has a checkpoint of that round.
 #[derive(Clone, Copy, Debug, PartialEq, Eq)]
 pub struct PutBy {
     pub attempt: Attempt,
     pub round: Round,
 }
 
-// A worker: it came up, and was last in that attempt.
+/// A worker: it came up, and was last in that attempt.
 #[derive(Clone, Copy, Debug, PartialEq, Eq)]
 pub struct Hello {
     pub attempt: Attempt,
 }
 
-// A message's kind with its numbers. The letters of a batch stand beside it.
+/// A message's kind with its numbers. The letters of a batch stand beside it.
 #[derive(Clone, Copy, Debug, PartialEq, Eq)]
 pub enum Kind {
     Batch(Batch),
@@ -59,7 +59,7 @@ pub enum Kind {
     Hello(Hello),
 }
 
-// A message on its way. Only a batch has letters.
+/// A message on its way. Only a batch has letters.
 #[derive(Drop)]
 pub struct Parcel {
     pub from: Line,

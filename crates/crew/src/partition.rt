@@ -12,14 +12,14 @@ use thiserror::Error;
 mod calls;
 mod counts;
 
-// From this place on, up to the next stretch, places are the worker's.
+/// From this place on, up to the next stretch, places are the worker's.
 #[derive(Clone, Copy, Debug, PartialEq, Eq)]
 pub struct Stretch {
     pub first: Place,
     pub worker: Line,
 }
 
-// Why there is no such table.
+/// Why there is no such table.
 #[derive(Clone, Copy, Debug, PartialEq, Eq, Error)]
 pub enum PartitionFault {
     #[error("more than 1048576 places")]
@@ -37,15 +37,15 @@ pub enum PartitionFault {
 impl From<AllocError> for PartitionFault {
     ghost from_gives = { λ _ e. e ≡ Memory };
 
-    fn from(_e: AllocError) -> PartitionFault {
+    fn from(_: AllocError) -> PartitionFault {
         PartitionFault::Memory
     }
 }
 
-// The table that all machines have: of how many places and workers, and the worker of each place. The number of places
-// stands beside the owners, since it is a number of places to all who ask, and their length is a number of bytes.
+/// The table that all machines have: of how many places and workers, and the worker of each place.
 #[derive(Drop)]
 pub struct Partition {
+    // As it was given: the owners' length is the same number as a usize, and whoever asks would have to narrow it.
     places: u32,
     workers: u8,
     owners: Vec<u8>,

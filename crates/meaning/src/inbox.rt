@@ -9,8 +9,8 @@ use crate::letters::Letters;
 mod calls;
 mod impls;
 
-// The letters stand as they were sent, and the index finds those of a place. The next round's index is made in the
-// spare one.
+/// The letters stand as they were sent, and the index finds those of a place. The next round's index is made in the
+/// spare one.
 #[derive(Drop)]
 pub struct Inbox {
     letters: Letters,
@@ -20,7 +20,7 @@ pub struct Inbox {
     ghost indexed: { Indexed (length index.starts.items - 1) letters.heads.items index.starts.items index.order.items },
 }
 
-// Goes through one place's letters, by rising senders, those of one sender in the order sent.
+/// Goes through one place's letters, by rising senders, those of one sender in the order sent.
 #[derive(Drop)]
 pub struct LettersTo<'a> {
     letters: &'a Letters,
@@ -28,7 +28,7 @@ pub struct LettersTo<'a> {
     ghost inside: { All (λ k. k < length (letters_of letters.now)) part.now },
 }
 
-// Why letters were not taken over: one goes to a place that isn't there, or memory is wanting.
+/// Why letters were not taken over: one goes to a place that isn't there, or memory is wanting.
 #[derive(Clone, Copy, Debug, PartialEq, Eq)]
 pub enum TakeOverError {
     MissingPlace,

@@ -9,22 +9,22 @@ use std::slice;
 mod calls;
 mod impls;
 
-// Who sent a letter, and to whom.
+/// Who sent a letter, and to whom.
 #[derive(Clone, Copy, Debug, PartialEq, Eq)]
 pub struct Head {
     pub from: Place,
     pub to: Place,
 }
 
-// A letter as its reader sees it.
+/// A letter as its reader sees it.
 #[derive(Clone, Copy)]
 pub struct Received<'a> {
     pub head: Head,
     pub bytes: &'a [u8],
 }
 
-// Letters in the order in which they were put in. Their heads stand in one table and their bodies in one pool, since
-// no letter is to have memory of its own.
+/// Letters in the order in which they were put in. Their heads stand in one table and their bodies in one pool, since
+/// no letter is to have memory of its own.
 #[derive(Drop)]
 pub struct Letters {
     pub(crate) heads: Vec<Head>,
@@ -32,7 +32,7 @@ pub struct Letters {
     ghost even: { length heads.items ≡ length (items bodies) },
 }
 
-// Goes through letters in order, heads and bodies side by side.
+/// Goes through letters in order, heads and bodies side by side.
 #[derive(Drop)]
 pub struct Iter<'a> {
     heads: slice::Iter<'a, Head>,

@@ -1,4 +1,4 @@
-// What places are after so many rounds: numbers, letters, plans, and the run by one machine.
+// What places are after so many rounds, and what they work with: numbers, letters, outbox and inbox, plans.
 #![tactic(auto)]
 
 mod group;
@@ -13,6 +13,6 @@ mod tests;
 
 pub use inbox::{Inbox, LettersTo, TakeOverError};
 pub use letters::{Head, Iter, Letters, Received};
-pub use numbers::{Place, Round};
+pub use numbers::{PLACES, Place, ROUNDS, Round};
 pub use outbox::{Outbox, Overfull};
 pub use plan::{Done, Given, Plan};

@@ -8,14 +8,14 @@ use crate::numbers::Place;
 
 mod calls;
 
-// Why a letter was not sent: it would be one too many, or it is too long.
+/// Why a letter was not sent: it would be one too many, or it is too long.
 #[derive(Clone, Copy, Debug, PartialEq, Eq)]
 pub enum Overfull {
     Letters,
     Bytes,
 }
 
-// All letters of a round so far, and room for what one place may still send.
+/// All letters of a round so far, and room for what one place may still send.
 #[derive(Drop)]
 pub struct Outbox {
     pub(crate) letters: Letters,

@@ -13,7 +13,7 @@ use crate::outbox::Outbox;
 
 mod calls;
 
-// What a plan is given in a round, beside the old state.
+/// What a plan is given in a round, beside the old state.
 #[derive(Clone, Copy)]
 pub struct Given<'a> {
     pub round: Round,
@@ -21,15 +21,15 @@ pub struct Given<'a> {
     pub inbox: &'a Inbox,
 }
 
-// What a place comes to, beside the letters that it sent.
+/// What a place comes to, beside the letters that it sent.
 #[derive(Clone, Copy)]
 pub struct Done<'a> {
     pub state: &'a [u8],
     pub rests: bool,
 }
 
-// A plan: what a place begins with, and what it does in a round. It is lent 256 bytes for a new state and an outbox
-// with room for 64 letters of 64 bytes, so that it cannot pass the limits.
+/// A plan: what a place begins with, and what it does in a round. It is lent 256 bytes for a new state and an outbox
+/// with room for 64 letters of 64 bytes, so that it cannot pass the limits.
 pub trait Plan {
     // what it means
     ghost program: { Self → Program };

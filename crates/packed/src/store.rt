@@ -5,7 +5,7 @@ ghost use Rattle.packed.specs.Cut.{Rises};
 mod calls;
 mod impls;
 
-// Byte strings in order: string k lies in the pool from cuts[k] up to cuts[k + 1]. What lies past the last cut is room.
+/// Byte strings in order: string k lies in the pool from cuts[k] up to cuts[k + 1]. What lies past the last cut is room.
 #[derive(Drop)]
 pub struct Strings {
     cuts: Vec<usize>,
@@ -15,7 +15,7 @@ pub struct Strings {
     ghost last: { slice_index cuts.items (vec_len cuts - 1) ≤ vec_len pool },
 }
 
-// Goes through strings in order, from the next one on.
+/// Goes through strings in order, from the next one on.
 #[derive(Clone, Drop)]
 pub struct Iter<'a> {
     strings: &'a Strings,

@@ -1,5 +1,6 @@
 -- Letters sent one after another.
-use Rattle.std.proofs.Common.{◌≡◌, ℕ, ◌-◌, ◌≤◌, Bool, true, false, cond, ltb, List, [], ◌∷◌, ◌++◌, length, Some, None, Option, sym, refl, ap, ◌∙◌, append_assoc, append-nil, arith, length-append}
+use Rattle.std.proofs.Common.{◌≡◌, ℕ, ◌-◌, Bool, true, false, cond, ltb, List, [], ◌∷◌, ◌++◌, length, map, Some, None, Option, sym, refl, ap, ◌∙◌, append_assoc, append-nil, arith, length-append}
+use Rattle.std.specs.List.{filter_map}
 use Rattle.meaning.specs.Mail.{Post, mailed}
 use Rattle.meaning.specs.Meaning.{Letter, Sent, posted}
 use Rattle.plans.specs.Sending.{to_each}
@@ -27,10 +28,15 @@ mailed_append o xs ys =
 pub mailed_more : (o p q : Post) (xs ys zs : List Sent) → p ≡ mailed o xs → q ≡ mailed p ys → xs ++ ys ≡ zs → q ≡ mailed o zs
 mailed_more o p q xs ys zs first then e = then ∙ ap (λ (m : Post). mailed m ys) first ∙ mailed_append o xs ys ∙ ap (mailed o) e
 
-pub length_to_each : (bytes : List ℕ) (places : List (Option ℕ)) → length (to_each bytes places) ≤ length places
-length_to_each bytes [] = omega arith
-length_to_each bytes (None ∷ places) = omega (arith, length_to_each bytes places)
-length_to_each bytes (Some v ∷ places) = omega (arith, length_to_each bytes places)
+-- the same letter to these places
+abbrev pub to_all : List ℕ → List ℕ → List Sent
+to_all bytes vs = map (λ v. record { to = v; bytes = bytes }) vs
+
+-- where they are those of the places that there are
+pub to_all_there : (bytes : List ℕ) (places : List (Option ℕ)) → to_all bytes (filter_map (λ p. p) places) ≡ to_each bytes places
+to_all_there bytes [] = refl
+to_all_there bytes (None ∷ places) = to_all_there bytes places
+to_all_there bytes (Some v ∷ places) = ap (λ l. record { to = v; bytes = bytes } ∷ l) (to_all_there bytes places)
 
 -- nothing sent
 pub mailed_none : (o : Post) → o ≡ mailed o []

@@ -5,13 +5,13 @@ ghost use Rattle.plans.specs.Numbers.{number_of, total_of};
 
 use meaning::Given;
 
-// The low 64 bits of a number. Those of 4 and of 8 bytes, as plans mostly have them, are read at once.
+// The low 64 bits of a number: of 8 and of 4 bytes std's own numbers, and of any other length one made byte by byte.
 pub(crate) fn number(bytes: &[u8]) -> u64
     ensures { result ≡ number_of bytes.now % 2 ^ 64 }
 {
     match bytes {
         [a, b, c, d, e, f, g, h] => u64::from_be_bytes([*a, *b, *c, *d, *e, *f, *g, *h]),
-        [a, b, c, d] => u32::from_be_bytes([*a, *b, *c, *d]) as u64,
+        [a, b, c, d] => u64::from(u32::from_be_bytes([*a, *b, *c, *d])),
         _ => byte_by_byte(bytes),
     }
 }
@@ -19,9 +19,10 @@ pub(crate) fn number(bytes: &[u8]) -> u64
 fn byte_by_byte(bytes: &[u8]) -> u64
     ensures { result ≡ number_of bytes.now % 2 ^ 64 }
 {
-    bytes
-        .iter()
-        .fold(0, |n: u64, b| n.wrapping_mul(256).wrapping_add(*b as u64))
+    bytes.iter().fold(
+        0,
+        |n: u64, b| n.wrapping_mul(256).wrapping_add(u64::from(*b)),
+    )
 }
 
 // The numbers in all letters that came, added up: the low 64 bits.

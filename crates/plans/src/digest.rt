@@ -17,7 +17,7 @@ pub(crate) fn fnv(start: u64, bytes: &[u8]) -> u64
 {
     bytes
         .iter()
-        .fold(start, |h, b| (h ^ *b as u64).wrapping_mul(PRIME))
+        .fold(start, |h, b| (h ^ u64::from(*b)).wrapping_mul(PRIME))
 }
 
 pub(crate) fn digest(given: &Given<'_>, state: &[u8]) -> u64

@@ -4,7 +4,7 @@ ghost use Rattle.std.proofs.Common.{rules};
 
 use meaning::{Done, Given, Outbox, Place, Plan};
 
-// It keeps its state, sends nothing and rests.
+/// It keeps its state, sends nothing and rests.
 #[derive(Clone, Copy)]
 pub struct Echo;
 

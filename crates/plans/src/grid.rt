@@ -3,7 +3,7 @@ ghost use Rattle.std.specs.Prelude.{◌<◌};
 
 mod calls;
 
-// Row by row, so many places to a row. Letters are sent in the rounds before the last.
+/// Row by row, so many places to a row. Letters are sent in the rounds before the last.
 #[derive(Clone, Copy)]
 pub struct Grid {
     width: u32,

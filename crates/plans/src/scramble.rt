@@ -20,7 +20,7 @@ const LENGTH: u8 = 253;
 
 const LETTERS: u8 = 254;
 
-// Of so many places. Letters are sent in the rounds before the last.
+/// Of so many places. Letters are sent in the rounds before the last.
 #[derive(Clone, Copy)]
 pub struct Scramble {
     pub places: u32,
@@ -94,6 +94,6 @@ fn send_letter(out: &mut Outbox, places: u32, word: u64)
 {
     let mut buffer = [0; 64];
     let body = again(&mut buffer, word, ((word >> 24) % 65) as usize);
-    let to = (word >> 32) % (places as u64 + places as u64 / 8 + 1);
+    let to = (word >> 32) % (u64::from(places) + u64::from(places) / 8 + 1);
     send(out, to as u32, body);
 }

@@ -1,7 +1,7 @@
 // Letters, where there is room for them.
 ghost use Rattle.std.specs.Prelude.{◌≡◌, ◌<◌, ◌≤◌, length};
 ghost use Rattle.meaning.specs.Mail.{post_of, mailed, one_to};
-ghost use Rattle.plans.specs.Sending.{to_each, to_one};
+ghost use Rattle.plans.specs.Sending.{to_each};
 
 use meaning::{Outbox, Place};
 
@@ -20,17 +20,7 @@ pub(crate) fn send_to_each(out: &mut Outbox, places: &[Option<u32>], body: &[u8]
     requires short { length body.now ≤ 64 }
     ensures { post_of out.new ≡ mailed (post_of out.old) (to_each body.now places.now) }
 {
-    for place in places {
-        send_to(out, *place, body);
-    }
-}
-
-fn send_to(out: &mut Outbox, place: Option<u32>, body: &[u8])
-    requires room { 0 < (post_of out.old).left }
-    requires short { length body.now ≤ 64 }
-    ensures { post_of out.new ≡ mailed (post_of out.old) (to_one body.now place) }
-{
-    if let Some(to) = place {
+    for to in places.iter().filter_map(|place| *place) {
         send(out, to, body);
     }
 }

@@ -4,9 +4,9 @@ ghost use Rattle.std.proofs.Common.{rules};
 
 use crate::bytes::{low_half, number, total, written};
 use crate::sending::send;
-use meaning::{Done, Given, Outbox, Place, Plan};
+use meaning::{Done, Given, Outbox, Place, Plan, Round};
 
-// States and letters are numbers of 4 bytes.
+/// States and letters are numbers of 4 bytes.
 #[derive(Clone, Copy)]
 pub struct Sum;
 
@@ -28,7 +28,7 @@ impl Plan for Sum {
         fresh: &'a mut [u8],
         out: &mut Outbox,
     ) -> Done<'a> {
-        if given.round.0 == 0 {
+        if given.round == Round(0) {
             send(out, 0, &given.place.0.to_be_bytes());
         }
         let sum = number(state).wrapping_add(total(&given));

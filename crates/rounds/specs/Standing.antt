@@ -1,7 +1,9 @@
 -- What places have after a round, as it is stored.
 -- Assumes nothing.
-use Rattle.std.specs.Prelude.{◌≡◌, ℕ, Bool, List, length, drop, vec_items}
+use Rattle.std.specs.Prelude.{◌≡◌, ℕ, Bool, List, length, vec_items}
 use Rattle.std.specs.List.{zip}
+use Rattle.std.specs.Slice.Iter.{iter_rest}
+use Rattle.packed.specs.Left.{strings_left}
 use Rattle.packed.specs.Strings.{items}
 use Rattle.rounds.specs.Sight.{Capped}
 use Rattle.rounds.specs.declared.standing.Held.{Held}
@@ -23,4 +25,4 @@ all_held s = zip (items s.states) (vec_items s.rests)
 
 -- those that are still to come
 abbrev pub left_in : Iter → List (List ℕ × Bool)
-left_in i = drop i.next (all_held i.standing.now)
+left_in i = zip (strings_left i.states) (iter_rest i.rests)

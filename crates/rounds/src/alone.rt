@@ -12,12 +12,14 @@ mod runs;
 
 pub use runs::run;
 
-// Is told of each round that is done.
+/// Is told of each round that is done.
+// A trait of the engine's own: who passes a closure would have to show that it may be called.
 pub trait Watch {
     fn reached(&mut self, round: Round);
 }
 
-// All places after so many rounds, and memory for the next round beside.
+/// All places after so many rounds, and memory for the next round beside.
+// How many there are stands by itself, since places are counted by 32 bits and what they have by the machine's words.
 #[derive(Drop)]
 pub struct Alone {
     round: Round,

@@ -4,10 +4,10 @@ use meaning::Outbox;
 
 mod calls;
 
-// What the places so far have after the round, what they sent, and the memory that a plan is lent for a new state.
+/// What the places so far have after the round, what they sent, and the memory that a plan is lent for a new state.
 #[derive(Drop)]
 pub struct Worked {
     pub standing: Standing,
     pub out: Outbox,
-    room: [u8; 256],
+    pub room: [u8; 256],
 }

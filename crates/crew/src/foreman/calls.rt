@@ -13,7 +13,7 @@ use crate::foreman::ready::Workers;
 use crate::foreman::{Foreman, Paced};
 use crate::journal::{Note, Owed};
 use crate::message::{Anew, Go, Kind, Parcel};
-use crate::numbers::{ATTEMPTS, Attempt, Line};
+use crate::numbers::{ATTEMPTS, Attempt, Line, SLOTS};
 use crate::outcome::{Outcome, Refusal};
 use meaning::{Letters, Round};
 use std::alloc::{AllocError, Global};
@@ -22,35 +22,35 @@ use std::alloc::{AllocError, Global};
 const PATIENCE: u8 = 100;
 
 impl Foreman {
-    // The attempt that it began last.
+    /// The attempt that it began last.
     pub fn attempt(&self) -> Attempt
         ensures { result.0 ≡ (foreman_of self.now).attempt }
     {
         self.attempt
     }
 
-    // The round that all are in.
+    /// The round that all are in.
     pub fn at(&self) -> Round
         ensures { result.0 ≡ (foreman_of self.now).at }
     {
         self.at
     }
 
-    // The last round of which all have a checkpoint.
+    /// The last round of which all have a checkpoint.
     pub fn noted(&self) -> Round
         ensures { result.0 ≡ (foreman_of self.now).noted }
     {
         self.noted
     }
 
-    // Whether it said that it is over.
+    /// Whether it said that it is over.
     pub fn is_over(&self) -> bool
         ensures { result ≡ (foreman_of self.now).over }
     {
         self.over
     }
 
-    // Everything again; and at the hundredth tick with nothing taken, an attempt anew.
+    /// Everything again; and at the hundredth tick with nothing taken, an attempt anew.
     pub fn tick(mut self, heap: Global) -> Result<Paced, AllocError>
         ensures { IfOk result (Gives self.workers (ticked self.workers (foreman_of self))) }
     {
@@ -82,7 +82,7 @@ impl Foreman {
             ending: true,
             over: false,
             noted: round,
-            kept: [round; 64],
+            kept: [round; SLOTS],
             quiet: 0,
             workers,
         }
@@ -170,15 +170,14 @@ impl Foreman {
 fn to_all(heap: Global, workers: u8, kind: Kind) -> Result<Vec<Parcel>, AllocError>
     ensures { IfOk result (λ v. parcels_of v.items ≡ to_all workers (message_of kind [])) }
 {
-    let mut says = Vec::new(heap);
-    for j in 0..workers {
-        let letters = Letters::new(heap)?;
-        says.push(Parcel {
-            from: Line::FOREMAN,
-            to: Line(j),
-            kind,
-            letters,
-        })?;
-    }
-    Ok(says)
+    (0..workers)
+        .map(|worker| -> Result<Parcel, AllocError> {
+            Ok(Parcel {
+                from: Line::FOREMAN,
+                to: Line(worker),
+                kind,
+                letters: Letters::new(heap)?,
+            })
+        })
+        .try_collect(heap)
 }

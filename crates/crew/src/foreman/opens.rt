@@ -11,8 +11,8 @@ use crate::partition::Partition;
 use std::alloc::Global;
 
 impl Foreman {
-    // With no note it is new, and in attempt 0. One that came up begins the next attempt, from the last round that it
-    // noted.
+    /// With no note it is new, and in attempt 0. One that came up begins the next attempt, from the last round that it
+    /// noted.
     pub fn open(heap: Global, table: &Partition, notes: &[Note]) -> Result<Paced, OpenFault>
         ensures { MatchResult result (Gives table.now.workers (opened table.now.workers (notes_of notes.now))) (OpenRefused table.now.workers (notes_of notes.now)) }
     {

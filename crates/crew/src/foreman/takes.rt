@@ -11,13 +11,13 @@ use crate::foreman::ready::Workers;
 use crate::foreman::{Foreman, Paced};
 use crate::journal::{Note, is_due};
 use crate::message::{Kind, PutBy, Ready};
-use crate::numbers::{Line, ROUNDS};
+use crate::numbers::Line;
 use crate::outcome::{Outcome, Refusal};
-use meaning::Round;
+use meaning::{ROUNDS, Round};
 use std::alloc::{AllocError, Global};
 
 impl Foreman {
-    // A message that came on a line. Where it is not taken, nothing changes and nothing is said.
+    /// A message that came on a line. Where it is not taken, nothing changes and nothing is said.
     pub fn take(self, heap: Global, line: Line, kind: Kind) -> Result<Paced, AllocError>
         ensures { IfOk result (Gives self.workers (took self.workers (foreman_of self) line.0 (message_of kind []))) }
     {
@@ -71,7 +71,7 @@ impl Foreman {
         ensures { result.0 ≡ (foreman_of self.now).kept line.0 }
     {
         self.kept
-            .get(line.0 as usize)
+            .get(usize::from(line.0))
             .copied()
             .unwrap_or(self.start)
     }
@@ -131,7 +131,7 @@ impl Foreman {
         requires { line.0 < self.workers }
         ensures { IfOk result (Gives self.workers (notes self.workers (foreman_of self) line.0 round.0)) }
     {
-        self.kept[line.0 as usize] = round;
+        self.kept[usize::from(line.0)] = round;
         self.quiet = 0;
         let least = self.least_kept(round);
         if least <= self.noted {
@@ -145,7 +145,7 @@ impl Foreman {
     fn least_kept(&self, round: Round) -> Round
         ensures { result.0 ≡ least_of round.0 self.now.workers (foreman_of self.now).kept }
     {
-        let kept = &self.kept[..self.workers as usize];
+        let kept = &self.kept[..usize::from(self.workers)];
         kept.iter().fold(round, |least, kept| least.min(*kept))
     }
 }

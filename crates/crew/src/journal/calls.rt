@@ -10,13 +10,14 @@ use crate::numbers::Attempt;
 use meaning::Round;
 use std::alloc::{AllocError, Global};
 
-// Checkpoints are made after 8 rounds, 16 and so on.
+/// Checkpoints are made after 8 rounds, 16 and so on.
 pub fn is_due(round: Round) -> bool
     ensures { result ≡ due round.0 }
 {
     round.0 % 8 == 0
 }
 
+// By hand: of a derived copy, callers learn nothing.
 impl Clone for Share {
     ghost is_clone = { λ s copy. view_of copy ≡ view_of s };
 
@@ -30,7 +31,7 @@ impl Clone for Share {
 }
 
 impl Note {
-    // The attempt that was begun last, and the round that was noted last; 0 where there was none.
+    /// The attempt that was begun last, and the round that was noted last; 0 where there was none.
     pub fn last(notes: &[Note]) -> (Attempt, Round)
         ensures attempt { result.0.0 ≡ last_began 0 (notes_of notes.now) }
         ensures round { result.1.0 ≡ last_noted 0 (notes_of notes.now) }
@@ -48,7 +49,7 @@ impl Note {
 }
 
 impl<R: Drop> Journal<R> {
-    // A machine that is new has no record.
+    /// A machine that is new has no record.
     pub fn new(heap: Global) -> Journal<R>
         ensures { result.records.items ≡ [] }
     {
@@ -60,11 +61,11 @@ impl<R: Drop> Journal<R> {
     pub fn records(&self) -> &[R]
         ensures { result.now ≡ self.now.records.items }
     {
-        self.records.as_slice()
+        &self.records
     }
 
-    // Appends what is owed, and only then hands out what may be said. Where memory runs out, nothing is appended and
-    // nothing is said.
+    /// Appends what is owed, and only then hands out what may be said. Where memory runs out, nothing is appended and
+    /// nothing is said.
     pub fn keep(&mut self, owed: Owed<R>) -> Result<Vec<Parcel>, AllocError>
         ensures { MatchResult result (λ says. (self.new.records.items ≡ self.old.records.items ++ owed.appends.items) × (says.items ≡ owed.says.items)) (λ _. self.new.records.items ≡ self.old.records.items) }
     {

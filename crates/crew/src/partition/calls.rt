@@ -9,7 +9,7 @@ use meaning::Place;
 use std::alloc::{AllocError, Global};
 
 impl Partition {
-    // A table by its stretches.
+    /// A table by its stretches.
     pub fn new(
         heap: Global,
         places: u32,
@@ -28,7 +28,7 @@ impl Partition {
         })
     }
 
-    // A table in which each worker has as many places as any other, or one more or less, in the workers' order.
+    /// A table in which each worker has as many places as any other, or one more or less, in the workers' order.
     pub fn evenly(heap: Global, places: u32, workers: u8) -> Result<Partition, PartitionFault>
         ensures { MatchResult result (λ p. (p.places ≡ places) × (p.workers ≡ workers) × Even places workers (owner_of p)) (PartitionRefused places workers (λ _. ⊥)) }
     {
@@ -52,7 +52,7 @@ impl Partition {
         self.workers
     }
 
-    // The worker of a place; of one that isn't there, the first.
+    /// The worker of a place; of one that isn't there, the first.
     pub fn owner(&self, place: Place) -> Line
         ensures { result.0 ≡ owner_of self.now place.0 }
     {
@@ -60,7 +60,7 @@ impl Partition {
     }
 }
 
-// The same table.
+// The same table. By hand: of a derived copy, callers learn nothing.
 impl Clone for Partition {
     ghost is_clone = { λ p q. (q.places ≡ p.places) × (q.workers ≡ p.workers) × (q.owners.items ≡ p.owners.items) };
 

@@ -3,9 +3,9 @@ ghost use Rattle.std.specs.Prelude.{◌≡◌, ℕ, ◌<◌, ◌≤◌, IfOk, ve
 ghost use Rattle.crew.specs.Job.{worker_cap};
 ghost use Rattle.meaning.specs.Caps.{place_cap};
 
-use crate::numbers::{PLACES, WORKERS};
+use crate::numbers::WORKERS;
 use crate::partition::{PartitionFault, Stretch};
-use meaning::Place;
+use meaning::{PLACES, Place};
 use std::alloc::{AllocError, Global};
 
 // So many places and so many workers: not too many of either, and one worker at least.
@@ -19,7 +19,7 @@ pub(crate) struct Counts {
 }
 
 impl Counts {
-    ghost use Rattle.crew.specs.Shared.{can_follow, Covers, Even, Misplaced, owner_from, PartitionRefused};
+    ghost use Rattle.crew.specs.Shared.{can_follow, Covers, Even, owner_from, PartitionRefused, StretchRefused};
 
     // Refuses what there is no table for.
     pub(crate) fn new(places: u32, workers: u8) -> Result<Counts, PartitionFault>
@@ -36,7 +36,7 @@ impl Counts {
 
     // Each stretch can stand where it does.
     pub(crate) fn check(self, stretches: &[Stretch]) -> Result<(), PartitionFault>
-        ensures { MatchResult result (λ _. Covers self.places self.workers stretches.now) (PartitionRefused self.places self.workers (Misplaced self.places self.workers stretches.now)) }
+        ensures { MatchResult result (λ _. Covers self.places self.workers stretches.now) (StretchRefused self.places self.workers stretches.now) }
     {
         if self.places > 0 && stretches.is_empty() {
             return Err(PartitionFault::Stretches { index: 0 });
@@ -83,7 +83,7 @@ impl Counts {
     {
         let mut owners = Vec::new(heap);
         for worker in 0..self.workers {
-            let end = (worker as usize + 1) * self.places as usize / self.workers as usize;
+            let end = (usize::from(worker) + 1) * self.places as usize / usize::from(self.workers);
             owners.resize(end, worker)?;
         }
         Ok(owners)

@@ -14,7 +14,7 @@ use crate::outbox::Outbox;
 use std::alloc::{AllocError, Global};
 
 impl Inbox {
-    // For so many places, with no letter.
+    /// For so many places, with no letter.
     pub fn new(heap: Global, places: u32) -> Result<Inbox, AllocError>
         ensures { IfOk result (λ i. received i ≡ []) }
     {
@@ -28,28 +28,28 @@ impl Inbox {
         })
     }
 
-    // All letters, as they were sent.
+    /// All letters, as they were sent.
     pub fn letters(&self) -> &Letters
         ensures { letters_of result.now ≡ received self.now }
     {
         &self.letters
     }
 
-    // No letter for anybody.
+    /// No letter for anybody.
     pub fn is_empty(&self) -> bool
         ensures { result ≡ none (received self.now) }
     {
-        self.letters.len() == 0
+        self.letters.is_empty()
     }
 
-    // How many letters a place got.
+    /// How many letters a place got.
     pub fn count(&self, place: Place) -> usize
         ensures { result ≡ length (letters_for place.0 (received self.now)) }
     {
         self.part(place).len()
     }
 
-    // A place's letters, by rising senders, those of one sender in the order sent.
+    /// A place's letters, by rising senders, those of one sender in the order sent.
     pub fn letters_to(&self, place: Place) -> LettersTo<'_>
         ensures { place_letters_left result ≡ letters_for place.0 (received self.now) }
     {
@@ -59,7 +59,7 @@ impl Inbox {
         }
     }
 
-    // A place's letter k.
+    /// A place's letter k.
     pub fn letter(&self, place: Place, k: usize) -> Option<Received<'_>>
         ensures { MatchOption result (length (letters_for place.0 (received self.now)) ≤ k) (λ x. (k < length (letters_for place.0 (received self.now))) × (received_of x ≡ slice_index_or (letters_for place.0 (received self.now)) k blank)) }
     {
@@ -67,8 +67,8 @@ impl Inbox {
         self.letters.get(number as usize)
     }
 
-    // Reads a byte of each of a place's letters, so that memory fetches them together and not one after the other. What
-    // it returns means nothing.
+    /// Reads a byte of each of a place's letters, so that memory fetches them together and not one after the other. What
+    /// it returns means nothing.
     pub fn touch(&self, place: Place) -> u8 {
         let mut byte = 0;
         for letter in self.letters_to(place) {
@@ -91,7 +91,7 @@ impl Inbox {
         packed::part(self.index.starts.as_slice(), self.index.order.as_slice(), v)
     }
 
-    // Takes over what was sent; the outbox is empty then, and its memory stays. Want of memory changes no letter.
+    /// Takes over what was sent; the outbox is empty then, and its memory stays. Want of memory changes no letter.
     pub fn receive(&mut self, out: &mut Outbox) -> Result<(), AllocError>
         ensures took { received self.new ≡ (if is_ok result then (post_of out.old).letters else received self.old) }
         ensures left { post_of out.new ≡ (if is_ok result then emptied (post_of out.old) else post_of out.old) }
@@ -105,8 +105,8 @@ impl Inbox {
         Ok(())
     }
 
-    // Takes these letters over, for so many places. Where one of them goes to a place that isn't there, or memory is
-    // wanting, the inbox has the letters that it had.
+    /// Takes these letters over, for so many places. Where one of them goes to a place that isn't there, or memory is
+    /// wanting, the inbox has the letters that it had.
     pub fn take_over(&mut self, places: u32, letters: Letters) -> Result<(), TakeOverError>
         ensures took { received self.new ≡ (if is_ok result then letters_of letters else received self.old) }
         ensures there { is_ok result ≡ true → There places letters.heads.items }

@@ -9,7 +9,7 @@ use crate::outbox::{Outbox, Overfull};
 use std::alloc::{AllocError, Global};
 
 impl Outbox {
-    // For so many places; nobody may send yet.
+    /// For so many places; nobody may send yet.
     pub fn new(heap: Global, places: u32) -> Result<Outbox, AllocError>
         ensures { IfOk result (λ o. post_of o ≡ record { places = places; from = 0; left = 0; letters = [] }) }
     {
@@ -22,7 +22,7 @@ impl Outbox {
         })
     }
 
-    // A place's turn: room for 64 letters of 64 bytes. Want of memory changes no letter.
+    /// A place's turn: room for 64 letters of 64 bytes. Want of memory changes no letter.
     pub fn begin(&mut self, from: Place) -> Result<(), AllocError>
         ensures places { (post_of self.new).places ≡ (post_of self.old).places }
         ensures letters { (post_of self.new).letters ≡ (post_of self.old).letters }
@@ -35,7 +35,7 @@ impl Outbox {
         Ok(())
     }
 
-    // A letter to a place. One to a place that isn't there is dropped here, and counts.
+    /// A letter to a place. One to a place that isn't there is dropped here, and counts.
     pub fn send(&mut self, to: Place, body: &[u8]) -> Result<(), Overfull>
         ensures test { is_ok result ≡ (nat_lt 0 (post_of self.old).left && nat_le (length body.now) 64) }
         ensures sent { post_of self.new ≡ (if is_ok result then mailed (post_of self.old) (one_to to.0 body.now) else post_of self.old) }
@@ -57,14 +57,14 @@ impl Outbox {
         Ok(())
     }
 
-    // Of how many places letters are sent.
+    /// Of how many places letters are sent.
     pub fn places(&self) -> u32
         ensures { result ≡ (post_of self.now).places }
     {
         self.places
     }
 
-    // All letters so far.
+    /// All letters so far.
     pub fn letters(&self) -> &Letters
         ensures { letters_of result.now ≡ (post_of self.now).letters }
     {
@@ -78,7 +78,7 @@ impl Outbox {
         self.left = 0;
     }
 
-    // No letter any more; the memory stays.
+    /// No letter any more; the memory stays.
     pub fn clear(&mut self)
         ensures { post_of self.new ≡ emptied (post_of self.old) }
     {

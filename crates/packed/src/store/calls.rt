@@ -1,5 +1,5 @@
 // What is done with packed strings.
-ghost use Rattle.std.specs.Prelude.{◌≡◌, ℕ, ◌+◌, ◌-◌, ◌<◌, ◌≤◌, true, cond, ◌&&◌, [], ◌∷◌, ◌++◌, length, take, is_ok, IfOk, if◌then◌else◌, vec_len, MatchOption, OnOk, nat_le, nat_lt, slice_index, slice_index_or};
+ghost use Rattle.std.specs.Prelude.{◌≡◌, ◌↔◌, IsTrue, ℕ, ◌+◌, ◌-◌, ◌<◌, ◌≤◌, true, cond, ◌&&◌, [], ◌∷◌, ◌++◌, length, take, is_ok, IfOk, if◌then◌else◌, vec_len, MatchOption, OnOk, nat_le, nat_lt, slice_index, slice_index_or};
 ghost use Rattle.std.specs.List.{between};
 ghost use Rattle.packed.specs.Left.{strings_left};
 ghost use Rattle.packed.specs.Strings.{items, used, spare, spare_bytes};
@@ -18,14 +18,21 @@ impl Strings {
         })
     }
 
-    // How many strings there are.
+    /// How many strings there are.
     pub fn len(&self) -> usize
         ensures { result ≡ length (items self.now) }
     {
         self.cuts.len() - 1
     }
 
-    // String k, as a part of the pool.
+    /// No string.
+    pub fn is_empty(&self) -> bool
+        ensures { IsTrue result ↔ (length (items self.now) ≡ 0) }
+    {
+        self.len() == 0
+    }
+
+    /// String k, as a part of the pool.
     pub fn get(&self, k: usize) -> Option<&[u8]>
         ensures { MatchOption result (length (items self.now) ≤ k) (λ s. (k < length (items self.now)) × (s.now ≡ slice_index_or (items self.now) k [])) }
     {
@@ -35,7 +42,7 @@ impl Strings {
         Some(part(self.cuts.as_slice(), self.pool.as_slice(), k))
     }
 
-    // The strings, in order.
+    /// The strings, in order.
     pub fn iter(&self) -> Iter<'_>
         ensures { strings_left result ≡ items self.now }
     {
@@ -45,7 +52,7 @@ impl Strings {
         }
     }
 
-    // One string more. Want of memory changes nothing, and where room was made for it there is none.
+    /// One string more. Want of memory changes nothing, and where room was made for it there is none.
     pub fn push(&mut self, s: &[u8]) -> Result<(), AllocError>
         ensures items { items self.new ≡ (if is_ok result then items self.old ++ s.now ∷ [] else items self.old) }
         ensures room { 0 < spare self.old → length s.now ≤ spare_bytes self.old → is_ok result ≡ true }
@@ -58,7 +65,7 @@ impl Strings {
         Ok(())
     }
 
-    // One string more where there is room for it; false where there is none, and nothing changes.
+    /// One string more where there is room for it; false where there is none, and nothing changes.
     pub fn put(&mut self, s: &[u8]) -> bool
         ensures test { result ≡ (nat_lt 0 (spare self.old) && nat_le (length s.now) (spare_bytes self.old)) }
         ensures items { items self.new ≡ (if result then items self.old ++ s.now ∷ [] else items self.old) }
@@ -71,7 +78,7 @@ impl Strings {
         true
     }
 
-    // Room for so many more strings, of so many more bytes in all. No string changes.
+    /// Room for so many more strings, of so many more bytes in all. No string changes.
     pub fn reserve(&mut self, more: usize, bytes: usize) -> Result<(), AllocError>
         ensures items { items self.new ≡ items self.old }
         ensures keeps { (spare self.old ≤ spare self.new) × (spare_bytes self.old ≤ spare_bytes self.new) }
@@ -120,14 +127,14 @@ impl Strings {
         self.pool.resize(need.max(size.saturating_add(size / 2)), 0)
     }
 
-    // How many bytes of memory the strings take.
+    /// How many bytes the strings have in all.
     pub fn bytes(&self) -> usize
         ensures { result ≡ used self.now }
     {
         self.used()
     }
 
-    // No string any more; the memory stays.
+    /// No string any more; the memory stays.
     pub fn clear(&mut self)
         ensures items { items self.new ≡ [] }
         ensures used { used self.new ≡ 0 }
@@ -137,8 +144,8 @@ impl Strings {
     }
 }
 
-// A string into its part of the pool. A new state is written into one slice from an old one in another: so the pool is as
-// long as its room. (A `Vec` that grows with what is put in took 0.9 of the time.)
+// A string into its part of the pool. Here a new state is written into one slice from an old one in another, as this
+// project wants it: so the pool is as long as its room, and the last cut says how much of it is used.
 fn write(pool: &mut [u8], start: usize, end: usize, s: &[u8])
     requires long { start + length s.now ≡ end }
     requires within { end ≤ length pool.old }

@@ -7,10 +7,7 @@ ghost use Rattle.std.proofs.Common.{rules, arith};
 use crate::bytes::{number, total, written};
 use crate::grid::Grid;
 use crate::sending::send_to_each;
-use meaning::{Done, Given, Outbox, Place, Plan};
-
-// The places in a row at most.
-const WIDEST: u32 = 1 << 20;
+use meaning::{Done, Given, Outbox, PLACES, Place, Plan};
 
 // The linear congruence's factor and step.
 const FACTOR: u64 = 6364136223846793005;
@@ -18,12 +15,12 @@ const FACTOR: u64 = 6364136223846793005;
 const STEP: u64 = 1442695040888963407;
 
 impl Grid {
-    // None if there are no places in a row, or too many.
+    /// None if there are no places in a row, or too many.
     pub fn new(width: u32, last: u32) -> Option<Grid>
         ensures test { is_some result ≡ (nat_lt 0 width && nat_le width 1048576) }
         ensures some { IfSome result (λ g. (g.width ≡ width) × (g.last ≡ last)) }
     {
-        if width == 0 || width > WIDEST {
+        if width == 0 || width > PLACES {
             return None;
         }
         Some(Grid { width, last })
@@ -54,7 +51,7 @@ impl Plan for Grid {
     ghost fits = { first_of (Prim.search rules, Prim.grind (arith, Self.row.coded.inj)) };
 
     fn first<'a>(&self, place: Place, fresh: &'a mut [u8]) -> &'a [u8] {
-        written(fresh, &(place.0 as u64).to_be_bytes())
+        written(fresh, &u64::from(place.0).to_be_bytes())
     }
 
     fn act<'a>(

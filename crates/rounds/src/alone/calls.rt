@@ -7,13 +7,11 @@ ghost use Rattle.rounds.specs.Sight.{world_of};
 
 use crate::alone::Alone;
 use crate::fault::Fault;
-use meaning::{Place, Plan, Round};
-
-// Rounds are done up to that many.
-const ROUNDS: u32 = (1 << 31) - 1;
+use crate::standing::Standing;
+use meaning::{Place, Plan, ROUNDS, Round};
 
 impl Alone {
-    // How many rounds are done.
+    /// How many rounds are done.
     pub fn round(&self) -> Round
         ensures { result ≡ self.now.round }
     {
@@ -26,14 +24,21 @@ impl Alone {
         self.places
     }
 
-    // A place's state.
+    /// What all places have.
+    pub fn standing(&self) -> &Standing
+        ensures { result.now ≡ self.now.standing }
+    {
+        &self.standing
+    }
+
+    /// A place's state.
     pub fn state(&self, place: Place) -> Option<&[u8]>
         ensures { MatchOption result (self.now.places ≤ place.0) (λ s. (place.0 < self.now.places) × (s.now ≡ slice_index_or (view_of self.now).states place.0 [])) }
     {
         self.standing.get(place.0 as usize).map(|held| held.state)
     }
 
-    // Does a place rest.
+    /// Does a place rest.
     pub fn rests(&self, place: Place) -> bool
         ensures { result ≡ slice_index_or (view_of self.now).rests place.0 false }
     {
@@ -42,14 +47,14 @@ impl Alone {
             .is_some_and(|held| held.rests)
     }
 
-    // All rest, and no letter is under way.
+    /// All rest, and no letter is under way.
     pub fn is_over(&self) -> bool
         ensures { result ≡ is_over self.now.places (world_of (view_of self.now)) }
     {
         self.inbox.is_empty() && self.standing.all_rest()
     }
 
-    // One round. A refusal changes nothing.
+    /// One round. A refusal changes nothing.
     pub fn step<P: Plan>(&mut self, plan: &P) -> Result<(), Fault>
         ensures faults { MatchResult result (λ _. self.old.round.0 < round_cap) (StepRefused self.old.round.0) }
         ensures places { self.new.places ≡ self.old.places }

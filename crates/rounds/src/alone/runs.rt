@@ -8,14 +8,11 @@ use crate::alone::{Alone, Watch};
 use crate::fault::Fault;
 use crate::standing::Standing;
 use crate::worked::Worked;
-use meaning::{Inbox, Place, Plan, Round};
+use meaning::{Inbox, PLACES, Place, Plan, Round};
 use std::alloc::Global;
 
-// How many places there may be.
-const PLACES: u32 = 1 << 20;
-
-// THE RUN ALONE: so many places do as the plan says, until it is over or so many rounds are done. What is returned is
-// what the meaning says of the round that it came to.
+/// THE RUN ALONE: so many places do as the plan says, until it is over or so many rounds are done. What is returned is
+/// what the meaning says of the round that it came to.
 pub fn run<P: Plan, W: Watch>(
     heap: Global,
     plan: &P,

@@ -13,7 +13,7 @@ use packed::Strings;
 use std::alloc::{AllocError, Global};
 
 impl Standing {
-    // Of no place yet.
+    /// Of no place yet.
     pub fn new(heap: Global) -> Result<Standing, AllocError>
         ensures { IfOk result (λ s. (items s.states ≡ []) × (s.rests.items ≡ [])) }
     {
@@ -24,7 +24,7 @@ impl Standing {
         })
     }
 
-    // What these places begin with.
+    /// What these places begin with.
     pub fn first<P: Plan, I: Iterator<Item = Place> + Drop>(
         heap: Global,
         plan: &P,
@@ -47,7 +47,7 @@ impl Standing {
         Ok(standing)
     }
 
-    // These states and rests, where there are as many of both and no state is too long.
+    /// These states and rests, where there are as many of both and no state is too long.
     pub fn of(states: Strings, rests: Vec<bool>) -> Option<Standing>
         ensures is { IsSome result ↔ IsStanding (items states) rests.items }
         ensures value { IfSome result (λ s. (s.states ≡ states) × (s.rests ≡ rests)) }
@@ -58,14 +58,21 @@ impl Standing {
         Some(Standing { states, rests })
     }
 
-    // Of how many places.
+    /// Of how many places.
     pub fn len(&self) -> usize
         ensures { result ≡ length self.now.rests.items }
     {
         self.rests.len()
     }
 
-    // What place k of them has.
+    /// Of no place.
+    pub fn is_empty(&self) -> bool
+        ensures { IsTrue result ↔ (self.now.rests.items ≡ []) }
+    {
+        self.rests.is_empty()
+    }
+
+    /// What place k of them has.
     pub fn get(&self, k: usize) -> Option<Held<'_>>
         ensures { MatchOption result (length self.now.rests.items ≤ k) (λ h. (k < length self.now.rests.items) × (h.state.now ≡ slice_index_or (items self.now.states) k []) × (h.rests ≡ slice_index_or self.now.rests.items k false)) }
     {
@@ -76,7 +83,7 @@ impl Standing {
         })
     }
 
-    // One place more. Want of memory changes nothing.
+    /// One place more. Want of memory changes nothing.
     pub fn push(&mut self, held: Held<'_>) -> Result<(), AllocError>
         ensures states { items self.new.states ≡ (if is_ok result then items self.old.states ++ held.entry.state.now ∷ [] else items self.old.states) }
         ensures rests { self.new.rests.items ≡ (if is_ok result then self.old.rests.items ++ held.entry.rests ∷ [] else self.old.rests.items) }
@@ -87,7 +94,7 @@ impl Standing {
         Ok(())
     }
 
-    // Of no place any more; the memory stays.
+    /// Of no place any more; the memory stays.
     pub fn clear(&mut self)
         ensures { (items self.new.states ≡ []) × (self.new.rests.items ≡ []) }
     {
@@ -95,20 +102,20 @@ impl Standing {
         self.rests.clear();
     }
 
-    // Do all of them rest.
+    /// Do all of them rest.
     pub fn all_rest(&self) -> bool
         ensures { result ≡ all_rest (length self.now.rests.items) (λ v. slice_index_or self.now.rests.items v false) }
     {
         self.rests.iter().all(|rests| *rests)
     }
 
-    // One place after the other.
+    /// One place after the other.
     pub fn iter(&self) -> Iter<'_>
         ensures { left_in result ≡ all_held self.now }
     {
         Iter {
-            standing: self,
-            next: 0,
+            states: self.states.iter(),
+            rests: self.rests.iter(),
         }
     }
 }
@@ -128,8 +135,8 @@ impl<'a> Iterator for Iter<'a> {
     ghost remaining = { item_count left_in };
 
     fn next(&mut self) -> Option<Held<'a>> {
-        let held = self.standing.get(self.next)?;
-        self.next += 1;
-        Some(held)
+        let state = self.states.next()?;
+        let rests = *self.rests.next()?;
+        Some(Held { state, rests })
     }
 }

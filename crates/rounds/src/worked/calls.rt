@@ -15,7 +15,7 @@ use meaning::{Given, Inbox, Outbox, Place, Plan, Round};
 use std::alloc::{AllocError, Global};
 
 impl Worked {
-    // Nothing yet, of so many places.
+    /// Nothing yet, of so many places.
     pub fn new(heap: Global, places: u32) -> Result<Worked, AllocError>
         ensures { IfOk result (λ w. (worked_of w ≡ blank_view) × (places_of w ≡ places)) }
     {
@@ -26,7 +26,7 @@ impl Worked {
         })
     }
 
-    // The memory stays.
+    /// The memory stays.
     pub fn clear(&mut self)
         ensures { (worked_of self.new ≡ blank_view) × (places_of self.new ≡ places_of self.old) }
     {
@@ -34,8 +34,8 @@ impl Worked {
         self.out.clear();
     }
 
-    // The round of these places, of which one after the other has what is standing. What was worked before is gone; its
-    // memory stays.
+    /// The round of these places, of which one after the other has what is standing. What was worked before is gone; its
+    /// memory stays.
     pub fn work<P: Plan, I: Iterator<Item = Place> + Drop>(
         &mut self,
         plan: &P,
@@ -60,7 +60,7 @@ impl Worked {
         Ok(())
     }
 
-    // The next place's turn. Who rests and got no letter keeps its state and does nothing.
+    /// The next place's turn. Who rests and got no letter keeps its state and does nothing.
     pub fn turn<P: Plan>(
         &mut self,
         plan: &P,
@@ -83,6 +83,8 @@ impl Worked {
         ensures places { places_of self.new ≡ places_of self.old }
     {
         self.out.begin(given.place)?;
+        // Each letter is read before the plan acts, so that what they wait for in memory they wait for together. The byte
+        // has to go somewhere, and the lent memory's content means nothing to a plan.
         self.room[0] = given.inbox.touch(given.place);
         // The place's part of the lent memory is handed on for the plan to write its new state into.
         let done = plan.act(given, held.state, &mut self.room[0..256], &mut self.out);

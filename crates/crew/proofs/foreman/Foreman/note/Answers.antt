@@ -25,9 +25,9 @@ returns c =
     let j : ℕ = c.args.line.0 in
     let r : ℕ = c.args.round.0 in
     let f : F.Foreman = foreman_of s in
-    let then : ℕ → ℕ = λ k. (get_or (set s.kept j c.args.round) k s.start).0 in
+    let then : ℕ → ℕ = λ k. (get_or (set s.kept c.from.result c.args.round) k s.start).0 in
     let expected : ℕ → ℕ = λ k. cond (eqb k j) r (f.kept k) in
-    let kept : then ≡ expected = λ i k. keeps s.kept j k c.args.round s.start (omega (arith, s.wide, s.many)) i in
+    let kept : then ≡ expected = (λ i k. (get_or (set s.kept (c.from.ensures i) c.args.round) k s.start).0) ∙ λ i k. keeps s.kept j k c.args.round s.start (omega (arith, s.wide, s.many)) i in
     let least : c.least_kept-least.result.0 ≡ F.least_kept m f j r = c.least_kept-least.ensures ∙ ap (F.least_of r m) kept in
     let later : f.noted < F.least_kept m f j r = omega (arith, above c.least_kept-least.result.0 f.noted (sym c.if-le.ensures), least) in
     let noted : F.Reply = record { state = Some (F.with_kept f j r (F.least_kept m f j r)); appends = J.Noted (F.least_kept m f j r) ∷ []; says = []; outcome = Taken } in

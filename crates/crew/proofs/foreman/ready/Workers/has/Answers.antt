@@ -3,5 +3,5 @@ use Rattle.std.proofs.lemmas.Bool.{le-ltb}
 use Rattle.std.proofs.lemmas.Nat.Bits.{bit_at_above}
 use Rattle.crew.proofs.foreman.ready.Workers.has.Goals as goal
 
-pub returns-else-line-lt64 : goal.returns-else-line-lt64
-returns-else-line-lt64 c = le-ltb c.args.line.0 64 c.if-line-lt64.false ∙ sym (ap (λ d. eqb d 1) (bit_at_above c.args.self.0 64 c.args.line.0 (omega arith) c.if-line-lt64.false))
+pub returns-else-line-lt-WORKERS : goal.returns-else-line-lt-WORKERS
+returns-else-line-lt-WORKERS c = le-ltb c.args.line.0 64 c.if-line-lt-WORKERS.false ∙ sym (ap (λ d. eqb d 1) (bit_at_above c.args.self.0 64 c.args.line.0 (omega arith) c.if-line-lt-WORKERS.false))

@@ -1,38 +1,26 @@
-use Rattle.std.proofs.Common.{◌≡◌, ℕ, ◌+◌, ◌<◌, ◌≤◌, Bool, false, List, [], ◌∷◌, length, get_or, drop, vec_items, sym, ap, ◌∙◌, arith}
+use Rattle.std.proofs.Common.{◌≡◌, ℕ, suc, ◌≤◌, List, [], ◌∷◌, length, slice_index_or, refl, ap, ◌∙◌, subst, arith}
 use Rattle.std.specs.List.{zip}
-use Rattle.std.proofs.lemmas.List.{drop_more, drop_all, length-drop}
-use Rattle.std.proofs.lemmas.Slice.Zip.{length-zip, get_or-zip}
-use Rattle.packed.specs.Strings.{items}
-use Rattle.rounds.specs.Standing.{all_held}
+use Rattle.std.specs.Slice.Iter.{iter_rest}
+use Rattle.meaning.specs.Caps.{state_cap}
+use Rattle.rounds.specs.Sight.{Capped}
 use Rattle.rounds.proofs.standing.calls.IterIterator.next.Goals as goal
 
--- past the last there is none, and before it the next comes first
-none_left : (ss : List (List ℕ)) (bs : List Bool) (k : ℕ) → length ss ≡ length bs → length bs ≤ k → drop k (zip ss bs) ≡ []
-none_left ss bs k even past = drop_all k (zip ss bs) (omega (arith, length-zip ss bs))
+first_capped : (ss ts : List (List ℕ)) (s : List ℕ) → ss ≡ s ∷ ts → Capped ss → length s ≤ state_cap
+first_capped ss ts s e all = subst (λ x. length x ≤ state_cap) (ap (λ l. slice_index_or l 0 []) e) (all 0)
 
-next_left : (ss : List (List ℕ)) (bs : List Bool) (k : ℕ) → length ss ≡ length bs → k < length bs → drop k (zip ss bs) ≡ (get_or ss k [], get_or bs k false) ∷ drop (k + 1) (zip ss bs)
-next_left ss bs k even lt =
-    drop_more (zip ss bs) k ([], false) (omega (arith, length-zip ss bs))
-    ∙ ap (λ x. x ∷ drop (k + 1) (zip ss bs)) (get_or-zip ss bs k ([], false) (omega arith) lt)
+later_capped : (ss ts : List (List ℕ)) (s : List ℕ) → ss ≡ s ∷ ts → Capped ss → Capped ts
+later_capped ss ts s e all k = subst (λ x. length x ≤ state_cap) (ap (λ l. slice_index_or l (suc k) []) e) (all (suc k))
 
-pub returns-in_err-held-clause-steps : goal.returns-in_err-held-clause-steps
-returns-in_err-held-clause-steps c =
-    let s = c.args.self.now.standing.now in
-    let none = none_left (items s.states) (vec_items s.rests) c.args.self.now.next s.even c.in_err-held.ensures in
-    rw c.from_residual.ensures (none, none)
+zip_gone : {A B : Type 0} (xs : List A) (ys : List B) → length ys ≡ 0 → zip xs ys ≡ []
+zip_gone [] ys h = refl
+zip_gone (x ∷ xs) [] h = refl
+zip_gone (x ∷ xs) (y ∷ ys) h = absurd (omega (arith, h))
 
-pub returns-clause-steps : goal.returns-clause-steps
-returns-clause-steps c =
-    let s = c.args.self.now.standing.now in
-    let k = c.args.self.now.next in
-    let h = c.in_ok-held.ensures in
-    next_left (items s.states) (vec_items s.rests) k s.even h.0 ∙ (λ i. (sym h.1 i, sym h.2 i) ∷ drop (k + 1) (all_held s))
+pub invariant_of-self-2 : goal.invariant_of-self-2
+invariant_of-self-2 c = record { fits = later_capped _ _ _ c.in_ok-state.ensures.steps c.args.self.now.fits }
 
-pub returns-clause-goes : goal.returns-clause-goes
-returns-clause-goes c =
-    let s = c.args.self.now.standing.now in
-    let h = c.in_ok-held.ensures in
-    let long = length-zip (items s.states) (vec_items s.rests) in
-    let left = length-drop c.args.self.now.next (all_held s) in
-    let left_then = length-drop (c.args.self.now.next + 1) (all_held s) in
-    record { on = λ e. (tt, tt, omega (arith, s.even, h.0, long, left, left_then)); keeps = tt; rests = λ e. tt }
+pub returns-in_err-rests-clause-steps : goal.returns-in_err-rests-clause-steps
+returns-in_err-rests-clause-steps c = rw c.from_residual-in_err-rests.ensures (zip_gone _ _ c.in_err-rests.ensures.steps.0, zip_gone _ _ (ap (λ it. length (iter_rest it)) c.in_err-rests.ensures.steps.1 ∙ c.in_err-rests.ensures.steps.0))
+
+pub invariant_of-result : goal.invariant_of-result
+invariant_of-result c = record { fits = first_capped _ _ _ c.in_ok-state.ensures.steps c.args.self.now.fits }

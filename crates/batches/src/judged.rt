@@ -8,7 +8,7 @@ ghost use Rattle.meaning.specs.Packets.{letters_of};
 use crew::{Line, Partition};
 use meaning::{Head, Letters};
 
-// Letters of places that are there, by rising senders.
+/// Letters of places that are there, by rising senders.
 pub fn well_formed(letters: &Letters, places: u32) -> bool
     ensures { result ≡ (rising_from 0 (letters_of letters.now) && named places (letters_of letters.now)) }
 {
@@ -21,7 +21,7 @@ fn rising(letters: &Letters) -> bool
 {
     letters
         .iter()
-        .is_sorted_by(|a, b| a.head.from.0 <= b.head.from.0)
+        .is_sorted_by(|a, b| a.head.from <= b.head.from)
 }
 
 // All senders and receivers are below this.
@@ -37,7 +37,7 @@ fn is_named(head: Head, places: u32) -> bool
     head.from.0 < places && head.to.0 < places
 }
 
-// All from places of one worker and to places of another.
+/// All from places of one worker and to places of another.
 pub fn between(letters: &Letters, table: &Partition, from: Line, to: Line) -> bool
     ensures { result ≡ between_by (owner_of table.now) from.0 to.0 (letters_of letters.now) }
 {
@@ -49,5 +49,5 @@ pub fn between(letters: &Letters, table: &Partition, from: Line, to: Line) -> bo
 fn is_between(head: Head, table: &Partition, from: Line, to: Line) -> bool
     ensures { result ≡ (from.0 == owner_of table.now head.from.0 && to.0 == owner_of table.now head.to.0) }
 {
-    from.0 == table.owner(head.from).0 && to.0 == table.owner(head.to).0
+    from == table.owner(head.from) && to == table.owner(head.to)
 }

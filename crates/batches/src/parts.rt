@@ -8,13 +8,13 @@ use crew::Partition;
 use meaning::Letters;
 use std::alloc::{AllocError, Global};
 
-// The part of each worker, in the workers' order, by one pass over the letters.
+/// The part of each worker, in the workers' order, by one pass over the letters.
 pub fn cut(heap: Global, letters: &Letters, table: &Partition) -> Result<Vec<Letters>, AllocError>
     ensures { IfOk result (λ v. map letters_of v.items ≡ parts_of (owner_of table.now) table.now.workers (letters_of letters.now)) }
 {
-    let mut parts = empty_parts(heap, table.workers() as usize)?;
+    let mut parts = empty_parts(heap, usize::from(table.workers()))?;
     for letter in letters.iter() {
-        let owner = table.owner(letter.head.to).0 as usize;
+        let owner = usize::from(table.owner(letter.head.to).0);
         parts[owner].push(letter.head, letter.bytes)?;
     }
     Ok(parts)

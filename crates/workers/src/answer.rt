@@ -5,7 +5,7 @@ ghost use Rattle.crew.specs.Outcomes.{Refused};
 use crew::{Outcome, Owed, Parcel, Record, Refusal};
 use std::alloc::Global;
 
-// What is owed to the journal before its messages may be said, and what the message came to. It cannot be let go.
+/// What is owed to the journal before its messages may be said, and what the message came to. It cannot be let go.
 pub struct Answer {
     pub owed: Owed<Record>,
     pub outcome: Outcome,

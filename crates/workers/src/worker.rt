@@ -23,9 +23,9 @@ mod takes_go;
 mod ticks;
 mod works;
 
-// What stays of it; where it is in its attempt; how many rounds are done and what its places have after them; what they
-// come to in the next, once it has worked it; the batches of that round that came; and the last round that it put by in
-// this attempt. What is worked lies beside the phase and not in it, since its memory serves round after round.
+/// What stays of it; where it is in its attempt; how many rounds are done and what its places have after them; what they
+/// come to in the next, once it has worked it; the batches of that round that came; and the last round that it put by in
+/// this attempt. What is worked lies beside the phase and not in it, since its memory serves round after round.
 #[derive(Drop)]
 pub struct Worker {
     station: Station,

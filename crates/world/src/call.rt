@@ -2,6 +2,7 @@
 use crew::Parcel;
 use std::alloc::Global;
 
+/// The calls that the model has. Which one a machine is told is data, since events are read from a script.
 #[derive(Clone, Copy)]
 pub enum Call<'a> {
     // come up
@@ -13,7 +14,7 @@ pub enum Call<'a> {
     Work,
 }
 
-// The plan of the crew, and where memory comes from.
+/// The plan of the crew, and where memory comes from.
 #[derive(Drop)]
 pub struct Setting<'a, P> {
     pub heap: Global,

@@ -8,7 +8,7 @@ use std::alloc::Global;
 mod foreman;
 mod worker;
 
-// What it is while it is up, and the journal that outlives it.
+/// What it is while it is up, and the journal that outlives it.
 #[derive(Drop)]
 pub struct Machine<M, R: Drop> {
     up: Option<M>,

@@ -12,7 +12,7 @@ mod asks;
 mod calls;
 mod events;
 
-// What is under way waits in the order said.
+/// What is under way waits in the order said.
 #[derive(Drop)]
 pub struct State {
     table: Partition,

@@ -9,7 +9,7 @@ use crew::{Line, Partition};
 use meaning::Plan;
 use std::alloc::{AllocError, Global};
 
-// A plan and a crew, and its type says that some run on the plan leads to it.
+/// A plan and a crew, and its type says that some run on the plan leads to it.
 #[derive(Drop)]
 pub struct World<P: Plan + Drop> {
     plan: P,
@@ -26,7 +26,7 @@ impl<P: Plan + Drop> World<P> {
     ghost use Rattle.world.specs.Looks.{Meant, places_at};
     ghost use Rattle.world.specs.Staged.{crew_of};
 
-    // A crew of which nobody was ever up.
+    /// A crew of which nobody was ever up.
     pub fn new(heap: Global, plan: P, table: Partition) -> Result<World<P>, AllocError>
         ensures { IfOk result (λ w. (w.plan ≡ plan) × (w.state.table ≡ table) × (crew_of w.state ≡ fresh)) }
     {
@@ -34,8 +34,8 @@ impl<P: Plan + Drop> World<P> {
         Ok(World { plan, state })
     }
 
-    // ONE EVENT: which crew it leads to is what the model says. It takes the world, since where memory runs out halfway no
-    // run leads to what is left.
+    /// ONE EVENT: which crew it leads to is what the model says. It takes the world, since where memory runs out halfway no
+    /// run leads to what is left.
     pub fn happen(self, heap: Global, event: Event) -> Result<World<P>, AllocError>
         ensures { IfOk result (λ w. (w.plan ≡ self.plan) × (w.state.table ≡ self.state.table) × (crew_of w.state ≡ happened (job_of self.state.table (P.Plan.program self.plan)) event (crew_of self.state))) }
     {
@@ -44,9 +44,9 @@ impl<P: Plan + Drop> World<P> {
         Ok(World { plan, state })
     }
 
-    // THE THEOREM, on the call by which a place is shown: whatever was lost, doubled or late and whoever crashed, its state
-    // and its rest are what one machine alone would have come to after so many rounds. It is place k of a worker, by rising
-    // number; none where there is no such worker or place, or where it is down.
+    /// THE THEOREM, on the call by which a place is shown: whatever was lost, doubled or late and whoever crashed, its state
+    /// and its rest are what one machine alone would have come to after so many rounds. It is place k of a worker, by rising
+    /// number; none where there is no such worker or place, or where it is down.
     pub fn look(&self, line: Line, k: usize) -> Option<Look<'_>>
         ensures meant { IfSome result (Meant (P.Plan.program self.now.plan) self.now.state) }
         ensures place { IfSome result (λ x. x.place.0 ≡ slice_index (places_of (job_of self.now.state.table (P.Plan.program self.now.plan)) line.0) k) }
@@ -61,7 +61,7 @@ impl<P: Plan + Drop> World<P> {
         })
     }
 
-    // What can be asked of a crew.
+    /// What can be asked of a crew.
     pub fn state(&self) -> &State
         ensures { result.now ≡ self.now.state }
     {

@@ -9,7 +9,7 @@ ghost use Rattle.workers.specs.Holding.{got_of};
 
 use crate::got::Got;
 use batches::merge_all;
-use crew::Partition;
+use crew::{Line, Partition};
 use meaning::Letters;
 use std::alloc::{AllocError, Global};
 
@@ -24,26 +24,26 @@ impl Got {
     }
 
     // A worker's batch.
-    pub(crate) fn put(&mut self, from: u8, letters: Letters)
-        requires { from < 64 }
-        ensures { got_of self.new ≡ (λ k. (if nat_eq k from then Some (letters_of letters) else got_of self.old k)) }
+    pub(crate) fn put(&mut self, from: Line, letters: Letters)
+        requires { from.0 < 64 }
+        ensures { got_of self.new ≡ (λ k. (if nat_eq k from.0 then Some (letters_of letters) else got_of self.old k)) }
     {
-        self.slots[from as usize] = Some(letters);
+        self.slots[usize::from(from.0)] = Some(letters);
     }
 
     // Is there a batch of that worker.
-    pub(crate) fn has(&self, from: u8) -> bool
-        requires { from < 64 }
-        ensures { result ≡ is_some (got_of self.now from) }
+    pub(crate) fn has(&self, from: Line) -> bool
+        requires { from.0 < 64 }
+        ensures { result ≡ is_some (got_of self.now from.0) }
     {
-        self.slots[from as usize].is_some()
+        self.slots[usize::from(from.0)].is_some()
     }
 
     // The slots of the workers that are there.
     fn of(&self, table: &Partition) -> &[Option<Letters>]
         ensures { result.now ≡ take table.now.workers (box_value self.now.slots) }
     {
-        &self.slots[..table.workers() as usize]
+        &self.slots[..usize::from(table.workers())]
     }
 
     // Is there a batch of each worker.
@@ -71,8 +71,5 @@ impl Got {
 fn has_no_letter(slot: &Option<Letters>) -> bool
     ensures { result ≡ none (letters_in (option_map letters_of slot.now)) }
 {
-    match slot {
-        Some(letters) => letters.len() == 0,
-        None => true,
-    }
+    slot.as_ref().is_none_or(|letters| letters.len() == 0)
 }

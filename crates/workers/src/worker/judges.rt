@@ -1,6 +1,6 @@
 // What a message comes to.
-ghost use Rattle.std.specs.Prelude.{◌≡◌, ℕ, ◌+◌, ◌<◌, ◌≤◌, true, not, ◌&&◌, ◌||◌, List, is_some, ◌==◌, nat_lt};
-ghost use Rattle.crew.specs.Journals.{Record as Kept, checkpoint_of};
+ghost use Rattle.std.specs.Prelude.{◌≡◌, ℕ, ◌+◌, ◌<◌, ◌≤◌, true, not, ◌&&◌, List, ◌==◌, nat_lt};
+ghost use Rattle.crew.specs.Journals.{Record as Kept};
 ghost use Rattle.crew.specs.Messages as M;
 ghost use Rattle.crew.specs.Outcomes.{Taken, judged};
 ghost use Rattle.crew.specs.Stored.{records_of};
@@ -9,6 +9,7 @@ ghost use Rattle.meaning.specs.Meaning.{Program};
 ghost use Rattle.meaning.specs.Packets.{letters_of};
 ghost use Rattle.workers.specs.Crewed.{job_in, worker_of};
 ghost use Rattle.workers.specs.Phases.{is_in, is_over};
+ghost use Rattle.workers.specs.Seen.{begins_at};
 ghost use Rattle.workers.specs.declared.phase.Phase.TheVariants.{Worked};
 
 use crate::history::checkpoint;
@@ -27,7 +28,7 @@ impl Worker {
         if !self.awaits(batch) {
             return Err(Refusal::Stale);
         }
-        if self.got.has(line.0) {
+        if self.got.has(line) {
             return Err(Refusal::Double);
         }
         if !self.station.is_ours(line, batch, letters) {
@@ -67,12 +68,14 @@ impl Worker {
     fn is_next(&self, go: Go) -> bool
         ensures { result ≡ (is_in self.now.phase && go.attempt.0 == self.now.attempt.0 && go.round.0 == self.now.round.0 + 1) }
     {
-        let after = self.round.0 as u64 + 1;
-        self.phase.is_in() && go.attempt == self.attempt && go.round.0 as u64 == after
+        self.phase.is_in()
+            && go.attempt == self.attempt
+            && self.round.0.checked_add(1) == Some(go.round.0)
     }
 
     pub(crate) fn judge_anew(&self, journal: &[Record], line: Line, anew: Anew) -> Outcome
-        ensures { (q : Program) → result ≡ judged (reasons (job_in self.now q) self.now.station.me.0 (records_of journal.now) (worker_of self.now) line.0 (M.Anew anew.attempt.0 anew.round.0)) }
+        ensures judged { (q : Program) → result ≡ judged (reasons (job_in self.now q) self.now.station.me.0 (records_of journal.now) (worker_of self.now) line.0 (M.Anew anew.attempt.0 anew.round.0)) }
+        ensures begins { result ≡ Taken → begins_at anew.round.0 (records_of journal.now) ≡ true }
     {
         if line != Line::FOREMAN {
             return Err(Refusal::Malformed);
@@ -92,7 +95,7 @@ impl Worker {
 
 // Is there something to begin with from that round.
 fn can_begin(journal: &[Record], round: Round) -> bool
-    ensures { result ≡ (round.0 == 0 || is_some (checkpoint_of round.0 (records_of journal.now))) }
+    ensures { result ≡ begins_at round.0 (records_of journal.now) }
 {
-    round.0 == 0 || checkpoint(journal, round).is_some()
+    round == Round(0) || checkpoint(journal, round).is_some()
 }

@@ -24,7 +24,7 @@ use rounds::Worked;
 use std::alloc::{AllocError, Global};
 
 impl Worker {
-    // A machine whose journal is empty is fresh, and in attempt 0. One that came up is out, and says hello.
+    /// A machine whose journal is empty is fresh, and in attempt 0. One that came up is out, and says hello.
     pub fn open<P: Plan>(
         heap: Global,
         plan: &P,
@@ -58,7 +58,7 @@ impl Worker {
         requires { map number station.mine.items ≡ mine_of station.table station.me.0 }
         ensures { IfOk result (λ w. (w.station ≡ station) × (worker_of w ≡ started_as (job_of station.table (P.Plan.program plan.now)) station.me.0 fresh attempt.0)) }
     {
-        let standing = first_standing(heap, plan, station.mine.as_slice())?;
+        let standing = first_standing(heap, plan, &station.mine)?;
         let inbox = Inbox::new(heap, station.table.places())?;
         let next = Worked::new(heap, station.table.places())?;
         let got = Got::new(heap)?;

@@ -12,7 +12,7 @@ use meaning::{Letters, Plan};
 use std::alloc::{AllocError, Global};
 
 impl Worker {
-    // A message that came on a line, with its letters. The journal is what was kept so far.
+    /// A message that came on a line, with its letters. The journal is what was kept so far.
     pub fn take<P: Plan>(
         &mut self,
         heap: Global,

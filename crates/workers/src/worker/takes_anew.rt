@@ -1,10 +1,11 @@
 // An anew comes: an attempt from a round.
-ghost use Rattle.std.specs.Prelude.{◌≡◌, ℕ, ◌<◌, ◌≤◌, List, [], IfOk, OnOk};
+ghost use Rattle.std.specs.Prelude.{◌≡◌, ℕ, ◌<◌, ◌≤◌, true, List, [], IfOk, OnOk};
 ghost use Rattle.crew.specs.Messages as M;
 ghost use Rattle.crew.specs.Outcomes.{Refused};
 ghost use Rattle.crew.specs.Stored.{parcels_of, records_of, view_of};
 ghost use Rattle.crew.specs.Worker.{answer as answers, joined_at, share_at, taking, took};
 ghost use Rattle.workers.specs.Crewed.{Replied, job_in, worker_of};
+ghost use Rattle.workers.specs.Seen.{begins_at};
 
 use crate::answer::Answer;
 use crate::got::Got;
@@ -67,6 +68,7 @@ impl Worker {
         journal: &[Record],
         anew: Anew,
     ) -> Result<Answer, AllocError>
+        requires { begins_at anew.round.0 (records_of journal.now) ≡ true }
         ensures same { self.new.station ≡ self.old.station }
         ensures replied { IfOk result (λ a. Replied (taking (job_in self.old (P.Plan.program plan.now)) self.old.station.me.0 (records_of journal.now) (worker_of self.old) 0 (M.Anew anew.attempt.0 anew.round.0)) self.new a) }
     {
@@ -83,6 +85,7 @@ impl Worker {
         })
     }
 
+    // What is begun with: what the places begin with, or the checkpoint of that round.
     fn start_share<P: Plan>(
         &self,
         heap: Global,
@@ -90,15 +93,13 @@ impl Worker {
         journal: &[Record],
         round: Round,
     ) -> Result<Share, AllocError>
+        requires { begins_at round.0 (records_of journal.now) ≡ true }
         ensures { IfOk result (λ s. view_of s ≡ share_at (job_in self.now (P.Plan.program plan.now)) self.now.station.me.0 round.0 (records_of journal.now)) }
     {
-        if round.0 == 0 {
-            return first_share(heap, plan, self.station.mine.as_slice());
+        if round == Round(0) {
+            return first_share(heap, plan, &self.station.mine);
         }
-        match checkpoint(journal, round) {
-            Some(kept) => kept.clone(),
-            None => Err(AllocError),
-        }
+        checkpoint(journal, round).unwrap().clone()
     }
 
     // Begins with that share. One that is not of its places, or passes the limits, cannot come from an honest run: it

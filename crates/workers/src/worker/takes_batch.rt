@@ -41,7 +41,7 @@ impl Worker {
         ensures same { self.new.station ≡ self.old.station }
         ensures replied { IfOk result (λ a. (q : Program) → Replied (batch_taken (job_in self.old q) self.old.station.me.0 (worker_of self.old) line.0 (letters_of letters.now)) self.new a) }
     {
-        self.got.put(line.0, letters.clone()?);
+        self.got.put(line, letters.clone()?);
         let mut says = Vec::new(heap);
         self.say_ready(heap, &mut says)?;
         Ok(Answer::saying(heap, says, Ok(())))

@@ -7,8 +7,8 @@ ghost use Rattle.workers.specs.declared.phase.Phase.TheVariants.{Idle};
 use crate::answer::Answer;
 use crate::phase::Phase;
 use crate::worker::Worker;
-use crew::{ROUNDS, Refusal};
-use meaning::Plan;
+use crew::Refusal;
+use meaning::{Plan, ROUNDS};
 use std::alloc::{AllocError, Global};
 
 impl Worker {
@@ -20,7 +20,7 @@ impl Worker {
         self.phase == Phase::Idle
     }
 
-    // Does the next round for its places, and says the batches of it.
+    /// Does the next round for its places, and says the batches of it.
     pub fn work<P: Plan>(&mut self, heap: Global, plan: &P) -> Result<Answer, AllocError>
         ensures same { self.new.station ≡ self.old.station }
         ensures replied { IfOk result (λ a. Replied (works (job_in self.old (P.Plan.program plan.now)) self.old.station.me.0 (worker_of self.old)) self.new a) }

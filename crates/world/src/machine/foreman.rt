@@ -29,6 +29,7 @@ impl Machine<Foreman, Note> {
             (None, Call::Open) => match Foreman::open(heap, table, self.journal.records()) {
                 Ok(paced) => self.keep(paced),
                 Err(OpenFault::UsedUp) => Ok(Vec::new(heap)),
+                // The very error that `open` met: an `AllocError` bears nothing.
                 Err(OpenFault::Memory) => Err(AllocError),
             },
             (Some(foreman), Call::Take(parcel)) => {

@@ -16,28 +16,28 @@ impl State {
         self.table.workers()
     }
 
-    // Whom the message is for that is due next.
+    /// Whom the message is for that is due next.
     pub fn due(&self) -> Option<Line>
         ensures { option_map (λ (l : Line). l.0) result ≡ due_to (crew_of self.now).underway }
     {
         self.underway.front().map(|parcel| parcel.to)
     }
 
-    // A worker, where it is up.
+    /// A worker, where it is up.
     pub fn worker(&self, line: Line) -> Option<&Worker>
         ensures { option_map (λ x. x.now) result ≡ worker_at self.now.seats.items line.0 }
     {
         self.seats.get(line.0 as usize)?.up()
     }
 
-    // The foreman, where it is up.
+    /// The foreman, where it is up.
     pub fn foreman(&self) -> Option<Foreman>
         ensures { result ≡ self.now.desk.up }
     {
         self.desk.up().copied()
     }
 
-    // What the foreman has written down.
+    /// What the foreman has written down.
     pub fn notes(&self) -> &[Note]
         ensures { result.now ≡ self.now.desk.journal.records.items }
     {

@@ -105,9 +105,5 @@ impl State {
 fn new_seats(heap: Global, workers: u8) -> Result<Vec<Machine<Worker, Record>>, AllocError>
     ensures { IfOk result (λ v. (vec_len v ≡ workers) × All IsNew v.items) }
 {
-    let mut seats = Vec::new(heap);
-    for _ in 0..workers {
-        seats.push(Machine::new(heap))?;
-    }
-    Ok(seats)
+    (0..workers).map(|_| Machine::new(heap)).collect(heap)
 }

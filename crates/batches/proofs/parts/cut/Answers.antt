@@ -13,7 +13,7 @@ pub loop-letter-init : goal.loop-letter-init
 loop-letter-init c = (
   tt,
   tt,
-  (c.in_ok-parts.ensures ∙ ap (λ n. replicate {A = List Letter} n []) c.workers.ensures ∙ parts_none (owner_of c.args.table.now) c.args.table.now.workers),
+  (c.in_ok-parts.ensures ∙ ap (λ n. replicate {A = List Letter} n []) (c.from.ensures ∙ c.workers.ensures) ∙ parts_none (owner_of c.args.table.now) c.args.table.now.workers),
   (sym c.iter-letter-items.ensures ∙ ap letters_left (sym c.into_iter-letter-iterator.ensures.into_iter_gives)),
 )
 
@@ -23,7 +23,7 @@ index_mut-requires c =
     let parts = vec_items c.loop-letter.parts in
     let before : List Letter = map received_of c.loop-letter.yielded in
     let long : length parts ≡ table.workers = sym (length-map parts letters_of) ∙ ap length c.loop-letter.invariant.2 ∙ length-map-range_with_len (λ j. part_of (owner_of table) j before) 0 table.workers in
-    omega (arith, long, c.loop-letter.parts.ok.0, c.owner-owner.ensures, owner_below table c.in-Some.letter.head.to.0)
+    omega (arith, long, c.loop-letter.parts.ok.0, c.from-owner.ensures, c.owner.ensures, owner_below table c.in-Some.letter.head.to.0)
 
 pub loop-letter-preserved : goal.loop-letter-preserved
 loop-letter-preserved c =
@@ -32,8 +32,8 @@ loop-letter-preserved c =
     let m = table.workers in
     let before : List Letter = map received_of c.loop-letter.yielded in
     let x : Letter = received_of c.in-Some.letter in
-    let o = c.owner-owner.result.0 in
-    let inside : o < m = omega (arith, c.owner-owner.ensures, owner_below table c.in-Some.letter.head.to.0) in
+    let o = c.from-owner.result in
+    let inside : o < m = omega (arith, c.from-owner.ensures, c.owner.ensures, owner_below table c.in-Some.letter.head.to.0) in
     let parts = vec_items c.loop-letter.parts in
     let inv = c.loop-letter.invariant in
     let long : length parts ≡ m = sym (length-map parts letters_of) ∙ ap length inv.2 ∙ length-map-range_with_len (λ j. part_of owner j before) 0 m in
@@ -47,7 +47,7 @@ loop-letter-preserved c =
       tt,
       (map-set letters_of parts o c.push.new.self
           ∙ (λ i. set (inv.2 i) o ((c.in_ok-push.ensures ∙ ap (λ (l : List Letter). l ++ x ∷ []) old) i))
-          ∙ parts_more owner m before x o c.owner-owner.ensures inside
+          ∙ parts_more owner m before x o (c.from-owner.ensures ∙ c.owner.ensures) inside
           ∙ ap (parts_of owner m) (sym pushed)),
       (inv.3
           ∙ ap (λ l. before ++ l) c.in-Some.ensures.steps

@@ -36,6 +36,7 @@ fn show_worker<P: Plan + Drop>(
     };
     let round = worker.round().0;
     out.put(|lines| script::head(lines, round))?;
+    // By number: the world's theorem is about the look at one place.
     for look in (0..worker.places()).filter_map(|k| world.look(line, k)) {
         out.put(|lines| script::line(lines, look.place.0, look.rests, look.state))?;
     }

@@ -23,12 +23,11 @@ fn count(times: &mut u32) {
     *times = times.saturating_add(1);
 }
 
-// Were all workers told that it is over.
+/// Were all workers told that it is over.
 pub fn is_over(state: &State) -> bool {
-    (0..state.workers()).all(|i| match state.worker(Line(i)) {
-        Some(worker) => worker.is_over(),
-        None => false,
-    })
+    (0..state.workers()).map(Line).all(|line| state
+        .worker(line)
+        .is_some_and(|worker| worker.is_over()))
 }
 
 impl<P: Plan + Drop> Fared<P> {
@@ -72,7 +71,7 @@ impl<P: Plan + Drop> Fared<P> {
     }
 
     fn all_tick(self) -> Result<Fared<P>, AllocError> {
-        self.call_all(|line| Step::Tick(line))
+        self.call_all(Step::Tick)
     }
 
     // What is due next is handed over to a machine, which may be down.
@@ -139,7 +138,7 @@ impl<P: Plan + Drop> Fared<P> {
 
     // With no faults until all were told that it is over, for at most so many rounds of ticks.
     fn until(self, ticks: u32) -> Result<Fared<P>, AllocError> {
-        let mut now = self.call_all(|line| Step::Up(line))?.drain()?;
+        let mut now = self.call_all(Step::Up)?.drain()?;
         for _ in 0..ticks {
             if is_over(now.world.state()) {
                 break;
@@ -153,7 +152,7 @@ impl<P: Plan + Drop> Fared<P> {
     fn drawn(self, seed: u32, draws: u32) -> Result<Fared<P>, AllocError> {
         let workers = self.world.state().workers();
         let mut now = self;
-        for event in Draws::of(seed, workers).take(draws as usize) {
+        for event in Draws::of(u64::from(seed), workers).take(draws as usize) {
             now = if is_of_the_queue(event) && now.due().is_none() {
                 now.all_tick()?
             } else {
@@ -189,7 +188,7 @@ impl<P: Plan + Drop> Fared<P> {
         Ok(now)
     }
 
-    // A worker that is down is brought up to be shown: it has its first states then.
+    /// A worker that is down is brought up to be shown: it has its first states then.
     pub fn all_up(self) -> Result<Fared<P>, AllocError> {
         let workers = self.world.state().workers();
         let mut now = self;

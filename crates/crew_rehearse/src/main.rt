@@ -15,7 +15,7 @@ struct Stage<'a> {
     script: &'a Script,
 }
 
-impl<'a> Player for Stage<'a> {
+impl Player for Stage<'_> {
     fn play<P: Plan + Drop>(&self, plan: P, name: &str) -> anyhow::Result<()> {
         let places = self.script.places;
         match &self.script.run {
@@ -29,6 +29,7 @@ impl<'a> Player for Stage<'a> {
 fn main(rt: HostRuntime) -> anyhow::Result<ExitCode> {
     rehearse(
         &rt,
+        // A closure: the name of a function of another crate, passed on, got no proof.
         |heap, text| crew_script::read(heap, text),
         |script| with_plan(script.plan, script.places, &Stage { rt: &rt, script }),
     )

@@ -1,5 +1,5 @@
 -- A text comes to a good script if and only if it is a proper one.
-use Rattle.std.proofs.Common.{◌≡◌, ℕ, ◌<◌, Bool, true, false, cond, not, ◌&&◌, ◌||◌, List, [], ◌∷◌, ◌++◌, map, length, Some, None, Ok, Err, Option, Result, sym, refl, ap, ◌∙◌, subst, append-nil, arith, length-append}
+use Rattle.std.proofs.Common.{◌≡◌, ℕ, ◌≤◌, Bool, true, false, cond, not, ◌&&◌, ◌||◌, List, [], ◌∷◌, ◌++◌, map, length, Some, None, Ok, Err, Option, Result, sym, refl, ap, ◌∙◌, subst, append-nil, arith, length-append}
 use Rattle.std.specs.List.{flat_map}
 use Rattle.std.specs.Option.{is_some}
 use Rattle.script.specs.declared.settings.Choice.{Choice}
@@ -349,13 +349,11 @@ asked_is (Some (Ok n)) (Some (Ok p)) (Some (Err x)) r xs es a e = absurd (let z 
 asked_is (Some (Ok n)) (Some (Ok p)) (Some (Ok m)) r xs es a e = cc
 
 -- what was found so far of something in each line, with what takes memory
-pub heavy : {X : Type 0} (f : Statement → List X) (kept : List X) (ls ms : List (Position × List ℕ)) (l : Position × List ℕ) (xs : List X) (text : List ℕ) →
-    kept ++ flat_map f (said_all ls) ≡ flat_map f (said_all (lines_in text)) → ls ≡ l ∷ ms → xs ≡ f (said_in l.1) → 0 < length xs → 0 < length (flat_map f (statements_of text))
-heavy f kept ls ms l xs text so_far next e some =
+pub weighs : {X : Type 0} (f : Statement → List X) (kept : List X) (ls ms : List (Position × List ℕ)) (l : Position × List ℕ) (text : List ℕ) →
+    kept ++ flat_map f (said_all ls) ≡ flat_map f (said_all (lines_in text)) → ls ≡ l ∷ ms → length (f (said_in l.1)) ≤ length (flat_map f (statements_of text))
+weighs f kept ls ms l text so_far next =
     omega (
       arith,
-      some,
-      ap length e,
       ap (λ k. length (flat_map f (said_all k))) next,
       ap length so_far,
       ap (λ ss. length (flat_map f ss)) (said_where text),

@@ -21,4 +21,4 @@ asked_in s = record { places = s.places; plan = s.plan; run = players_in s.run }
 abbrev pub told_by : Result Script (Unread Expected) → Option (Outcome Asked Expected)
 told_by (Ok s) = Some (good (asked_in s))
 told_by (Err (Bad v)) = Some (bad (vec_items v))
-told_by (Err Memory) = None
+told_by (Err (Memory e)) = None

@@ -27,6 +27,7 @@ pub enum Expected {
 }
 
 impl Expected {
+    // By hand, in place of thiserror's derive: that has no contract, and here it is promised what is printed.
     fn text(self) -> &'static str
         ensures { result.now ≡ wording self }
     {

@@ -4,6 +4,11 @@ ghost use Rattle.crew_script.specs.Draws.{event_at, machine_at};
 
 use crate::settings::{Event, Machine};
 
+// A linear congruential generator, by its factor and its step.
+const FACTOR: u64 = 6364136223846793005;
+
+const STEP: u64 = 1442695040888963407;
+
 /// The events that a seed draws for so many workers, without end.
 #[derive(Clone, Copy)]
 pub struct Draws {
@@ -14,11 +19,11 @@ pub struct Draws {
 impl Draws {
     ghost use Rattle.crew_script.specs.Drawing.{begun};
 
-    pub fn of(seed: u32, workers: u8) -> Draws
+    pub fn of(seed: u64, workers: u8) -> Draws
         ensures { result ≡ begun seed workers }
     {
         Draws {
-            state: seed as u64,
+            state: seed,
             workers,
         }
     }
@@ -32,10 +37,7 @@ impl Iterator for Draws {
     ghost next_gives = { Draw };
 
     fn next(&mut self) -> Option<Event> {
-        self.state = self
-            .state
-            .wrapping_mul(6364136223846793005)
-            .wrapping_add(1442695040888963407);
+        self.state = self.state.wrapping_mul(FACTOR).wrapping_add(STEP);
         Some(event_at(self.state, self.workers))
     }
 }
@@ -44,8 +46,8 @@ impl Iterator for Draws {
 fn event_at(state: u64, workers: u8) -> Event
     ensures { result ≡ event_at state workers }
 {
-    let kind = state / 4294967296 % 256;
-    let rest = state / 1099511627776;
+    let kind = (state >> 32) % 256;
+    let rest = state >> 40;
     match kind {
         0..182 => Event::Give,
         182..192 => Event::Lose,
@@ -63,8 +65,8 @@ fn event_at(state: u64, workers: u8) -> Event
 fn machine_at(rest: u64, workers: u8) -> Machine
     ensures { result ≡ machine_at rest workers }
 {
-    let machine = rest % (workers as u64 + 1);
-    if machine < workers as u64 {
+    let machine = rest % (u64::from(workers) + 1);
+    if machine < u64::from(workers) {
         Machine::Worker(machine as u8)
     } else {
         Machine::Foreman

@@ -1,6 +1,6 @@
 // What befalls a crew, as a line says it.
 ghost use Rattle.std.specs.Prelude.{◌≡◌};
-ghost use Rattle.crew_script.specs.Saying.{cut_of, event_of, late_with, machine_in, seed_of, tick_with, until_of, up_with};
+ghost use Rattle.crew_script.specs.Saying.{cut_of, event_of, machine_in, seed_of, until_of};
 ghost use Rattle.script.specs.Text.{number_in, one_number};
 ghost use Rattle.script.specs.Words.{words_left};
 
@@ -15,9 +15,17 @@ pub(crate) fn event(word: &[u8], words: Words<'_>) -> Option<Result<Event, Expec
     ensures { result ≡ event_of word.now (words_left words.entry) }
 {
     if is(word, b"tick") {
-        Some(tick(words).ok_or(Expected::TickSettings))
+        Some(
+            only_machine(words)
+                .map(Event::Tick)
+                .ok_or(Expected::TickSettings),
+        )
     } else if is(word, b"up") {
-        Some(up(words).ok_or(Expected::UpSettings))
+        Some(
+            only_machine(words)
+                .map(Event::Up)
+                .ok_or(Expected::UpSettings),
+        )
     } else if is(word, b"cut") {
         Some(cut(words).ok_or(Expected::CutSettings))
     } else if is(word, b"give") {
@@ -27,7 +35,11 @@ pub(crate) fn event(word: &[u8], words: Words<'_>) -> Option<Result<Event, Expec
     } else if is(word, b"twice") {
         Some(bare(Event::Twice, words).ok_or(Expected::NoWord))
     } else if is(word, b"late") {
-        Some(late(words).ok_or(Expected::LateSettings))
+        Some(
+            only(words, 0, u32::MAX)
+                .map(Event::Late)
+                .ok_or(Expected::LateSettings),
+        )
     } else if is(word, b"seed") {
         Some(seed(words).ok_or(Expected::SeedSettings))
     } else if is(word, b"until") {
@@ -56,37 +68,15 @@ fn only_machine(mut words: Words<'_>) -> Option<Machine>
     bare(machine(word)?, words)
 }
 
-fn tick(words: Words<'_>) -> Option<Event>
-    ensures { result ≡ tick_with (machine_in (one_number 0 64 (words_left words.entry))) }
-{
-    let machine = only_machine(words)?;
-    Some(Event::Tick(machine))
-}
-
-fn up(words: Words<'_>) -> Option<Event>
-    ensures { result ≡ up_with (machine_in (one_number 0 64 (words_left words.entry))) }
-{
-    let machine = only_machine(words)?;
-    Some(Event::Up(machine))
-}
-
 fn cut(mut words: Words<'_>) -> Option<Event>
     ensures { result ≡ cut_of (words_left words.entry) }
 {
     let machine = machine(words.next()?)?;
-    let rest = words;
     let keeps = match words.next() {
         None => None,
-        Some(_) => Some(only(rest, 0, u32::MAX)?),
+        Some(word) => Some(bare(limited(word, 0, u32::MAX)?, words)?),
     };
     Some(Event::Cut { machine, keeps })
-}
-
-fn late(words: Words<'_>) -> Option<Event>
-    ensures { result ≡ late_with (one_number 0 4294967295 (words_left words.entry)) }
-{
-    let behind = only(words, 0, u32::MAX)?;
-    Some(Event::Late(behind))
 }
 
 fn seed(mut words: Words<'_>) -> Option<Event>

@@ -1,18 +1,16 @@
 // What the lines of a script say, taken together, and which of them are bad.
-ghost use Rattle.std.specs.Prelude.{◌≡◌};
-ghost use Rattle.std.specs.Option.{option_map};
-ghost use Rattle.crew_script.specs.Given.{added_to, crew_fault, event_fault, fault_of, follows, is_machine, last_after, lone_fault, owner_fault, run_in, script_in, there, unsaid, workers_fault};
+ghost use Rattle.std.specs.Prelude.{◌≡◌, ◌||◌};
+ghost use Rattle.std.specs.Option.{is_some, option_map};
+ghost use Rattle.crew_script.specs.Given.{added_to, crew_fault, event_fault, fault_of, follows, is_machine, last_after, lone_fault, owner_fault, script_in, there, unsaid, workers_fault};
 ghost use Rattle.crew_script.specs.Told.{asked_in};
 ghost use Rattle.script.specs.Given.{given_or};
 
 use crate::complaints::Expected;
 use crate::settings::{Crew, Event, Machine, Run, Script, Span};
-use crate::statements::Statement;
+use crate::statements::{MOST_WORKERS, Statement};
 use script::{MOST_PLACES, say_once};
 
-const MOST_WORKERS: u8 = 8;
-
-/// What the first line with each first word says, and the first place of the last stretch. A bad line counts as given too.
+// What the first line with each first word says, and the first place of the last stretch. A bad line counts as given too.
 #[derive(Clone, Copy)]
 pub(crate) struct Given {
     pub lone: script::Given,
@@ -21,7 +19,7 @@ pub(crate) struct Given {
 }
 
 impl Given {
-    /// Before the first line.
+    // Before the first line.
     pub(crate) fn nothing() -> Given
         ensures { result ≡ unsaid }
     {
@@ -32,7 +30,7 @@ impl Given {
         }
     }
 
-    /// Takes one more line.
+    // Takes one more line.
     pub(crate) fn add(&mut self, statement: Statement)
         ensures { self.new ≡ added_to self.old statement }
     {
@@ -48,7 +46,7 @@ impl Given {
         }
     }
 
-    /// What should have stood in a line, where it is bad, after what was given before it; this is what all lines give.
+    // What should have stood in a line, where it is bad, after what was given before it; this is what all lines give.
     pub(crate) fn judge(&self, given: &Given, statement: Statement) -> Result<(), Expected>
         ensures { result ≡ fault_of self.now given.now statement }
     {
@@ -107,33 +105,23 @@ impl Given {
     fn places(&self) -> u32
         ensures { result ≡ given_or 1048576 self.now.lone.places }
     {
-        match self.lone.places {
-            Some(Ok(places)) => places,
-            _ => MOST_PLACES,
-        }
+        given_or(self.lone.places, MOST_PLACES)
     }
 
     fn workers(&self) -> u8
         ensures { result ≡ given_or 8 self.now.workers }
     {
-        match self.workers {
-            Some(Ok(workers)) => workers,
-            _ => MOST_WORKERS,
-        }
+        given_or(self.workers, MOST_WORKERS)
     }
 
-    /// Whether some line says who plays.
-    pub(crate) fn run(&self) -> Option<()>
-        ensures { result ≡ run_in self.now }
+    // Whether some line says who plays.
+    pub(crate) fn is_played(&self) -> bool
+        ensures { result ≡ (is_some self.now.lone.alone || is_some self.now.workers) }
     {
-        if self.lone.alone.is_some() || self.workers.is_some() {
-            Some(())
-        } else {
-            None
-        }
+        self.lone.alone.is_some() || self.workers.is_some()
     }
 
-    /// The script, where all that it needs is given and good.
+    // The script, where all that it needs is given and good.
     pub(crate) fn script(&self, stretches: Vec<Span>, events: Vec<Event>) -> Option<Script>
         ensures { option_map asked_in result ≡ script_in self.now stretches.items events.items }
     {
@@ -150,6 +138,15 @@ impl Given {
             }),
         };
         Some(Script { places, plan, run })
+    }
+}
+
+fn given_or<T: Copy, E: Copy>(given: Option<Result<T, E>>, most: T) -> T
+    ensures { result ≡ given_or most given }
+{
+    match given {
+        Some(Ok(given)) => given,
+        _ => most,
     }
 }
 

@@ -1,7 +1,7 @@
 // Scripts: read line by line, with what is wrong with each.
-ghost use Rattle.std.specs.Prelude.{◌≡◌, ◌<◌, ◌++◌, length, IfSome, MatchOption, MatchResult};
+ghost use Rattle.std.specs.Prelude.{◌≡◌, ◌+◌, ◌<◌, ◌++◌, length, IfSome, MatchOption, MatchResult};
 ghost use Rattle.crew_script.specs.Proper.{Judged};
-ghost use Rattle.crew_script.specs.Script.{all_of, event_in, listed, missing, outcome_of, stretch_in, weight_of};
+ghost use Rattle.crew_script.specs.Script.{all_of, events_of, missing, outcome_of, stretches_of, weight_of};
 ghost use Rattle.crew_script.specs.Told.{told_by};
 
 use crate::complaints::Expected;
@@ -36,8 +36,7 @@ pub fn read(heap: Global, text: &[u8]) -> Result<Script, Unread<Expected>>
         let statement = parse(line);
         let judged = all.judge(&given, statement);
         note(&mut complaints, Some(position), judged)?;
-        keep(&mut stretches, stretch(statement))?;
-        keep(&mut events, event(statement))?;
+        keep(&mut stretches, &mut events, statement)?;
         given.add(statement);
     }
     lack_all(&mut complaints, &all)?;
@@ -47,29 +46,18 @@ pub fn read(heap: Global, text: &[u8]) -> Result<Script, Unread<Expected>>
     }
 }
 
-fn stretch(statement: Statement) -> Option<Span>
-    ensures { result ≡ stretch_in statement }
+// Keeps the stretch or the event that a line says.
+fn keep(
+    stretches: &mut Vec<Span>,
+    events: &mut Vec<Event>,
+    statement: Statement,
+) -> Result<(), AllocError>
+    ensures { MatchResult result (λ _. (stretches.new.items ≡ stretches.old.items ++ stretches_of statement) × (events.new.items ≡ events.old.items ++ events_of statement)) (λ _. 0 < length (stretches_of statement) + length (events_of statement)) }
 {
     match statement {
-        Statement::Owner(span) => span.ok(),
-        _ => None,
-    }
-}
-
-fn event(statement: Statement) -> Option<Event>
-    ensures { result ≡ event_in statement }
-{
-    match statement {
-        Statement::Happens(event) => event.ok(),
-        _ => None,
-    }
-}
-
-fn keep<T: Drop>(kept: &mut Vec<T>, said: Option<T>) -> Result<(), AllocError>
-    ensures { MatchResult result (λ _. kept.new.items ≡ kept.old.items ++ listed said) (λ _. 0 < length (listed said)) }
-{
-    if let Some(said) = said {
-        kept.push(said)?;
+        Statement::Owner(Ok(span)) => stretches.push(span)?,
+        Statement::Happens(Ok(event)) => events.push(event)?,
+        _ => {}
     }
     Ok(())
 }
@@ -88,5 +76,5 @@ fn lack_all(complaints: &mut Vec<Complaint<Expected>>, all: &Given) -> Result<()
         all.lone.plan,
         Expected::Lone(script::Expected::PlanLine),
     )?;
-    lack(complaints, all.run(), Expected::RunLine)
+    lack(complaints, all.is_played().then_some(()), Expected::RunLine)
 }

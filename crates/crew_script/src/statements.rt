@@ -11,12 +11,12 @@ use script::{MOST_PLACES, Words, is, limited, only};
 
 const LAST_PLACE: u32 = MOST_PLACES - 1;
 
-const MOST_WORKERS: u32 = 8;
+pub(crate) const MOST_WORKERS: u8 = 8;
 
-const LAST_WORKER: u32 = 7;
+const LAST_WORKER: u8 = MOST_WORKERS - 1;
 
-/// A line of a crew, or one that says what it says without crews. What follows the first word may be bad: then it is what
-/// should have stood there.
+// A line of a crew, or one that says what it says without crews. What follows the first word may be bad: then it is what
+// should have stood there.
 #[derive(Clone, Copy, Debug, PartialEq, Eq)]
 pub(crate) enum Statement {
     Lone(script::Statement),
@@ -47,7 +47,7 @@ pub(crate) fn parse(line: &[u8]) -> Statement
 fn workers(words: Words<'_>) -> Option<u8>
     ensures { result ≡ one_number 1 8 (words_left words.entry) }
 {
-    let workers = only(words, 1, MOST_WORKERS)?;
+    let workers = only(words, 1, u32::from(MOST_WORKERS))?;
     Some(workers as u8)
 }
 
@@ -56,7 +56,7 @@ fn owner(mut words: Words<'_>) -> Option<Span>
     ensures { result ≡ owner_of (words_left words.entry) }
 {
     let first = limited(words.next()?, 0, LAST_PLACE)?;
-    let worker = only(words, 0, LAST_WORKER)?;
+    let worker = only(words, 0, u32::from(LAST_WORKER))?;
     Some(Span {
         first,
         worker: worker as u8,

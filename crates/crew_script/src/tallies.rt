@@ -21,7 +21,7 @@ pub struct Tally {
     pub noted: u32,
 }
 
-// The line of counts. Want of memory changes nothing, and where there is room there is none.
+/// The line of counts. Want of memory changes nothing, and where there is room there is none.
 pub fn counts(out: &mut Vec<u8>, c: Tally) -> Result<(), AllocError>
     ensures items { out.new.items ≡ (if is_ok result then out.old.items ++ counts_text c else out.old.items) }
     ensures room { vec_len out.old + 126 ≤ vec_capacity out.old → is_ok result ≡ true }
@@ -38,6 +38,7 @@ pub fn counts(out: &mut Vec<u8>, c: Tally) -> Result<(), AllocError>
     Ok(())
 }
 
+// By hand, as the lines of `script` are.
 fn put_count(out: &mut Vec<u8>, label: &[u8], n: u32)
     requires { vec_len out.old + (length label.now + 10) ≤ vec_capacity out.old }
     ensures items { out.new.items ≡ out.old.items ++ (label.now ++ decimal n) }

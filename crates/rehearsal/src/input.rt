@@ -1,6 +1,6 @@
 // A script from standard input, and what was wrong with it.
 use script::{Complaint, Position, Unread};
-use std::alloc::{AllocError, Global};
+use std::alloc::Global;
 use std::fmt::Display;
 use std::io::Read;
 use std::process::ExitCode;
@@ -59,6 +59,6 @@ where
             complain(rt, text.as_slice(), complaints.as_slice())?;
             Ok(ExitCode::FAILURE)
         }
-        Err(Unread::Memory) => Err(AllocError.into()),
+        Err(Unread::Memory(error)) => Err(error.into()),
     }
 }

@@ -1,5 +1,5 @@
 // The plans that scripts name.
-use anyhow::anyhow;
+use anyhow::Context;
 use meaning::Plan;
 use plans::{Echo, Grid, Scramble, Sum};
 use script::Choice;
@@ -15,9 +15,11 @@ pub fn with_plan<A: Player>(choice: Choice, places: u32, player: &A) -> anyhow::
         Choice::Sum => player.play(Sum, "sum"),
         Choice::Echo => player.play(Echo, "echo"),
         Choice::Scramble { last } => player.play(Scramble { places, last }, "scramble"),
-        Choice::Grid { width, last } => match Grid::new(width, last) {
-            Some(plan) => player.play(plan, "grid"),
-            None => Err(anyhow!("rehearse: a grid is 1 to 1048576 places wide")),
-        },
+        Choice::Grid { width, last } => {
+            let plan = Grid::new(width, last).context(
+                "rehearse: a grid is 1 to 1048576 places wide",
+            )?;
+            player.play(plan, "grid")
+        }
     }
 }

@@ -22,7 +22,7 @@ impl Progress {
         })
     }
 
-    // Wipes what was shown.
+    /// Wipes what was shown.
     pub fn end(&self) {
         if self.shown {
             let _ = eprint!(self.rt; "\r                    \r");

@@ -12,7 +12,7 @@ struct Alone<'a> {
     script: &'a Script,
 }
 
-impl<'a> Player for Alone<'a> {
+impl Player for Alone<'_> {
     fn play<P: Plan + Drop>(&self, plan: P, name: &str) -> anyhow::Result<()> {
         rehearsal::play(self.rt, &plan, name, self.script.places, self.script.rounds)
     }
@@ -21,6 +21,7 @@ impl<'a> Player for Alone<'a> {
 fn main(rt: HostRuntime) -> anyhow::Result<ExitCode> {
     rehearse(
         &rt,
+        // A closure: the name of a function of another crate, passed on, got no proof.
         |heap, text| script::read(heap, text),
         |script| with_plan(script.plan, script.places, &Alone { rt: &rt, script }),
     )

@@ -33,4 +33,4 @@ IsBad (bad cs) = Unit {0}
 abbrev pub told_by : {S E : Type 0} → Result S (Unread E) → Option (Outcome S E)
 told_by (Ok s) = Some (good s)
 told_by (Err (Bad v)) = Some (bad (vec_items v))
-told_by (Err Memory) = None
+told_by (Err (Memory e)) = None

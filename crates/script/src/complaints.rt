@@ -24,6 +24,7 @@ pub enum Expected {
 }
 
 impl Expected {
+    // By hand, in place of thiserror's derive: that has no contract, and here it is promised what is printed.
     pub fn text(self) -> &'static str
         ensures { result.now ≡ wording self }
     {
@@ -78,15 +79,15 @@ where
 #[derive(Debug, Drop)]
 pub enum Unread<E> {
     Bad(Vec<Complaint<E>>),
-    Memory,
+    Memory(AllocError),
 }
 
 impl<E> From<AllocError> for Unread<E> {
     ghost use Rattle.script.specs.declared.complaints.Unread.TheVariants.{Memory};
 
-    ghost from_gives = { λ _ u. u ≡ Memory };
+    ghost from_gives = { λ e u. u ≡ Memory e };
 
-    fn from(_: AllocError) -> Unread<E> {
-        Unread::Memory
+    fn from(error: AllocError) -> Unread<E> {
+        Unread::Memory(error)
     }
 }

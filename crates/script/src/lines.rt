@@ -10,6 +10,8 @@ pub struct Position {
     pub end: usize,
 }
 
+// By hand, in place of `split`: a complaint names where its line lies, which would have to be counted beside a `split`.
+
 /// The lines that are left. What follows the last newline is a line too.
 #[derive(Clone, Copy)]
 pub struct Lines<'a> {

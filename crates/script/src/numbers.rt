@@ -3,6 +3,7 @@ ghost use Rattle.std.specs.Prelude.{◌≡◌, ◌≤◌, IfSome};
 ghost use Rattle.script.specs.Text.{number_in, number_of, one_number};
 ghost use Rattle.script.specs.Words.{words_left};
 
+use crate::statements::bare;
 use crate::words::Words;
 
 const MOST_DIGITS: usize = 10;
@@ -15,10 +16,10 @@ fn number(word: &[u8]) -> Option<u64>
     }
     let mut n: u64 = 0;
     for byte in word {
-        if *byte < b'0' || *byte > b'9' {
+        if !byte.is_ascii_digit() {
             return None;
         }
-        n = n * 10 + (*byte - b'0') as u64;
+        n = n * 10 + u64::from(*byte - b'0');
     }
     Some(n)
 }
@@ -28,11 +29,8 @@ pub fn limited(word: &[u8], low: u32, high: u32) -> Option<u32>
     ensures value { result ≡ number_in low high word.now }
     ensures within { IfSome result (λ n. (low ≤ n) × (n ≤ high)) }
 {
-    let n = number(word)?;
-    if n < low as u64 || n > high as u64 {
-        return None;
-    }
-    Some(n as u32)
+    let n = u32::try_from(number(word)?).ok()?;
+    (low..=high).contains(&n).then_some(n)
 }
 
 /// The number from low to high that is all that is left.
@@ -41,8 +39,5 @@ pub fn only(mut words: Words<'_>, low: u32, high: u32) -> Option<u32>
     ensures within { IfSome result (λ n. (low ≤ n) × (n ≤ high)) }
 {
     let word = words.next()?;
-    match words.next() {
-        None => limited(word, low, high),
-        Some(_) => None,
-    }
+    bare(limited(word, low, high)?, words)
 }

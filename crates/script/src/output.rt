@@ -11,10 +11,9 @@ const HEAD_ROOM: usize = 17;
 // Room for ten digits, two blanks, a mark, a newline and the `-` of an empty state.
 const LINE_ROOM: usize = 15;
 
-// A state beyond this length finds no memory, whatever there is.
-const LONGEST_STATE: usize = usize::MAX / 4;
+// By hand, in place of `write!`: no proof says that `write!` succeeds where there is room, as `head` and `line` promise.
 
-// The line that says how many rounds were done. Want of memory changes nothing, and where there is room there is none.
+/// The line that says how many rounds were done. Want of memory changes nothing, and where there is room there is none.
 pub fn head(out: &mut Vec<u8>, round: u32) -> Result<(), AllocError>
     ensures items { out.new.items ≡ (if is_ok result then out.old.items ++ head_text round else out.old.items) }
     ensures room { vec_len out.old + 17 ≤ vec_capacity out.old → is_ok result ≡ true }
@@ -26,15 +25,12 @@ pub fn head(out: &mut Vec<u8>, round: u32) -> Result<(), AllocError>
     Ok(())
 }
 
-// A place's line. Want of memory changes nothing, and where there is room there is none.
+/// A place's line. Want of memory changes nothing, and where there is room there is none.
 pub fn line(out: &mut Vec<u8>, place: u32, rests: bool, state: &[u8]) -> Result<(), AllocError>
     ensures items { out.new.items ≡ (if is_ok result then out.old.items ++ line_text place rests state.now else out.old.items) }
     ensures room { vec_len out.old + (15 + 2 * length state.now) ≤ vec_capacity out.old → is_ok result ≡ true }
 {
-    if state.len() > LONGEST_STATE {
-        return Err(AllocError);
-    }
-    out.reserve(LINE_ROOM + 2 * state.len())?;
+    out.reserve(state.len().saturating_mul(2).saturating_add(LINE_ROOM))?;
     put(out, Buffer::new().format(place).as_bytes());
     put(out, if rests { b" 1 " } else { b" 0 " });
     put_state(out, state);
@@ -42,8 +38,7 @@ pub fn line(out: &mut Vec<u8>, place: u32, rests: bool, state: &[u8]) -> Result<
     Ok(())
 }
 
-// By hand, in place of `write!`: no proof says that `write!` succeeds where there is room, as `head` and `line` promise.
-/// Appends a text for which there is room.
+/// Appends a text for which there is room. Who calls has made room for the whole line, so that nothing is half written.
 pub fn put(out: &mut Vec<u8>, text: &[u8])
     requires { vec_len out.old + length text.now ≤ vec_capacity out.old }
     ensures items { out.new.items ≡ out.old.items ++ text.now }

@@ -40,13 +40,7 @@ where
     E: Drop,
     ensures { MatchResult result (λ _. complaints.new.items ≡ complaints.old.items ++ lacking given expected) (λ _. 0 < length (lacking given expected)) }
 {
-    if given.is_none() {
-        complaints.push(Complaint {
-            expected,
-            position: None,
-        })?;
-    }
-    Ok(())
+    note(complaints, None, given.map(drop).ok_or(expected))
 }
 
 // Complains of what no line gave.

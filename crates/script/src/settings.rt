@@ -1,6 +1,6 @@
 // What a good script sets.
 
-// A plan by its name, with its settings.
+/// A plan by its name, with its settings.
 #[derive(Clone, Copy, Debug, PartialEq, Eq)]
 pub enum Choice {
     Sum,
@@ -9,7 +9,7 @@ pub enum Choice {
     Grid { width: u32, last: u32 },
 }
 
-// How many places there are, what they do, and how many rounds are done at most.
+/// How many places there are, what they do, and how many rounds are done at most.
 #[derive(Clone, Copy, Debug, PartialEq, Eq)]
 pub struct Script {
     pub places: u32,

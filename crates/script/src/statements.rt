@@ -9,6 +9,8 @@ use crate::numbers::{limited, only};
 use crate::settings::Choice;
 use crate::words::{Words, is};
 
+// The limits are the language's own: it stands on no crate of the engine.
+
 /// More places than these are refused.
 pub const MOST_PLACES: u32 = 1048576;
 
@@ -63,17 +65,13 @@ fn plan(mut words: Words<'_>) -> Result<Choice, Expected>
 pub fn bare<T: Copy>(named: T, mut words: Words<'_>) -> Option<T>
     ensures { result ≡ bare_of named (words_left words.entry) }
 {
-    match words.next() {
-        None => Some(named),
-        Some(_) => None,
-    }
+    words.next().is_none().then_some(named)
 }
 
 fn scramble(words: Words<'_>) -> Option<Choice>
     ensures { result ≡ scramble_with (one_number 0 4294967295 (words_left words.entry)) }
 {
-    let last = only(words, 0, u32::MAX)?;
-    Some(Choice::Scramble { last })
+    only(words, 0, u32::MAX).map(|last| Choice::Scramble { last })
 }
 
 fn grid(mut words: Words<'_>) -> Option<Choice>

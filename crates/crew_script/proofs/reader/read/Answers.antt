@@ -1,13 +1,12 @@
 use Rattle.std.proofs.Common.{◌≡◌, ℕ, ◌<◌, length, vec_items, vec_len, sym, ap, ◌∙◌, subst, arith}
 use Rattle.std.proofs.lemmas.Bool.{eqb-true, eqb-false}
 use Rattle.std.proofs.lemmas.Result.{err_from_is_err_and}
-use Rattle.std.specs.List.{flat_map}
 use Rattle.std.specs.Option.{option_map}
 use Rattle.script.specs.Lines.{lines_left}
 use Rattle.crew_script.specs.Proper.{Judged}
-use Rattle.crew_script.specs.Script.{event_in, events_of, listed, statements_of, stretch_in, stretches_of, weight_of}
+use Rattle.crew_script.specs.Script.{events_of, stretches_of, weight_of}
 use Rattle.crew_script.specs.Told.{asked_in}
-use Rattle.crew_script.proofs.Propriety.{heavy, judged, told_bad, told_good, told_set}
+use Rattle.crew_script.proofs.Propriety.{judged, told_bad, told_good, told_set, weighs}
 use Rattle.crew_script.proofs.reader.read.Goals as goal
 use Rattle.crew_script.proofs.reader.read.Goals.{in_default-via-in-Some-script+else-is_empty, in_default-via-in_default}
 
@@ -15,20 +14,12 @@ pub returns-in_err-keep-clause-told : goal.returns-in_err-keep-clause-told
 returns-in_err-keep-clause-told c =
     let l = c.loop-position in
     let p = err_from_is_err_and c.from_residual-in_err-keep.result c.from_residual-in_err-keep.ensures.1 in
-    let some : 0 < length (flat_map stretches_of (statements_of c.args.text.now)) =
-    heavy stretches_of (vec_items l.stretches) (lines_left l.position-iterator) (lines_left c.next.new.self) (c.in-Some.position, c.in-Some.line.now) (listed c.stretch.result) c.args.text.now l.invariant.1 c.in-Some.ensures.steps
-    (ap listed (c.stretch.ensures ∙ ap stretch_in c.parse-statement.ensures)) c.in_err-keep.ensures in
-    let weight : 0 < weight_of c.args.text.now = omega (arith, some) in
-    rw (p.1, p.2) weight
-
-pub returns-in_err-keep-2-clause-told : goal.returns-in_err-keep-2-clause-told
-returns-in_err-keep-2-clause-told c =
-    let l = c.loop-position in
-    let p = err_from_is_err_and c.from_residual-in_err-keep-2.result c.from_residual-in_err-keep-2.ensures.1 in
-    let some : 0 < length (flat_map events_of (statements_of c.args.text.now)) =
-    heavy events_of (vec_items l.events) (lines_left l.position-iterator) (lines_left c.next.new.self) (c.in-Some.position, c.in-Some.line.now) (listed c.event.result) c.args.text.now l.invariant.2 c.in-Some.ensures.steps
-    (ap listed (c.event.ensures ∙ ap event_in c.parse-statement.ensures)) c.in_err-keep-2.ensures in
-    let weight : 0 < weight_of c.args.text.now = omega (arith, some) in
+    let stretches =
+    weighs stretches_of (vec_items l.stretches) (lines_left l.position-iterator) (lines_left c.next.new.self) (c.in-Some.position, c.in-Some.line.now) c.args.text.now l.invariant.1 c.in-Some.ensures.steps in
+    let events =
+    weighs events_of (vec_items l.events) (lines_left l.position-iterator) (lines_left c.next.new.self) (c.in-Some.position, c.in-Some.line.now) c.args.text.now l.invariant.2 c.in-Some.ensures.steps in
+    let weight : 0 < weight_of c.args.text.now =
+    omega (arith, stretches, events, c.in_err-keep.ensures, ap (λ s. length (stretches_of s)) c.parse-statement.ensures, ap (λ s. length (events_of s)) c.parse-statement.ensures) in
     rw (p.1, p.2) weight
 
 pub returns-in-Some-script-clause-told : goal.returns-in-Some-script-clause-told

@@ -1,10 +1,12 @@
 // The inbox: the letters that were sent in the last round, found by receiver.
-ghost use Rattle.std.specs.Prelude.{◌-◌, ◌<◌, length, All};
+ghost use Rattle.std.specs.Prelude.{◌-◌, length};
 ghost use Rattle.meaning.specs.Groups.{Indexed};
-ghost use Rattle.meaning.specs.Packets.{There, letters_of};
+ghost use Rattle.meaning.specs.Packets.{There};
 
 use crate::group::Index;
 use crate::letters::Letters;
+use crate::numbers::Place;
+use thiserror::Error;
 
 mod calls;
 mod impls;
@@ -20,17 +22,19 @@ pub struct Inbox {
     ghost indexed: { Indexed (length index.starts.items - 1) letters.heads.items index.starts.items index.order.items },
 }
 
-/// Goes through one place's letters, by rising senders, those of one sender in the order sent.
+/// Goes through one place's letters, by rising senders, those of one sender in the order sent, from the next one on.
 #[derive(Drop)]
 pub struct LettersTo<'a> {
-    letters: &'a Letters,
-    part: &'a [u32],
-    ghost inside: { All (λ k. k < length (letters_of letters.now)) part.now },
+    inbox: &'a Inbox,
+    place: Place,
+    next: usize,
 }
 
-/// Why letters were not taken over: one goes to a place that isn't there, or memory is wanting.
-#[derive(Clone, Copy, Debug, PartialEq, Eq)]
+/// Why letters were not taken over.
+#[derive(Clone, Copy, Debug, PartialEq, Eq, Error)]
 pub enum TakeOverError {
+    #[error("a letter to a place that isn't there")]
     MissingPlace,
+    #[error("no memory")]
     OutOfMemory,
 }

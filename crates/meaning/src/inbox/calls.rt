@@ -54,8 +54,9 @@ impl Inbox {
         ensures { place_letters_left result ≡ letters_for place.0 (received self.now) }
     {
         LettersTo {
-            letters: &self.letters,
-            part: self.part(place),
+            inbox: self,
+            place,
+            next: 0,
         }
     }
 
@@ -71,10 +72,12 @@ impl Inbox {
     /// it returns means nothing.
     pub fn touch(&self, place: Place) -> u8 {
         let mut byte = 0;
-        for letter in self.letters_to(place) {
-            byte ^= (letter.head.from.0 & 0xff) as u8;
-            if let Some(first) = letter.bytes.first() {
-                byte ^= *first;
+        for number in self.part(place) {
+            if let Some(letter) = self.letters.get(*number as usize) {
+                byte ^= (letter.head.from.0 & 0xff) as u8;
+                if let Some(first) = letter.bytes.first() {
+                    byte ^= *first;
+                }
             }
         }
         byte

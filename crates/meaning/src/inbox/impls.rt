@@ -17,9 +17,9 @@ impl<'a> Iterator for LettersTo<'a> {
     ghost remaining = { item_count place_letters_left };
 
     fn next(&mut self) -> Option<Received<'a>> {
-        let (k, others) = self.part.split_first()?;
-        self.part = others;
-        self.letters.get(*k as usize)
+        let letter = self.inbox.letter(self.place, self.next)?;
+        self.next += 1;
+        Some(letter)
     }
 }
 

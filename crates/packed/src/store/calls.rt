@@ -12,8 +12,10 @@ impl Strings {
     pub fn new(heap: Global) -> Result<Strings, AllocError>
         ensures { IfOk result (λ s. items s ≡ []) }
     {
+        let mut cuts = Vec::new(heap);
+        cuts.push(0)?;
         Ok(Strings {
-            cuts: vec![in heap; 0]?,
+            cuts,
             pool: Vec::new(heap),
         })
     }
@@ -124,7 +126,10 @@ impl Strings {
             return Ok(());
         }
         let need = used.checked_add(bytes).ok_or(AllocError)?;
-        self.pool.resize(need.max(size.saturating_add(size / 2)), 0)
+        let wanted = need.max(size.saturating_add(size / 2));
+        // Exactly that: by itself `resize` takes twice the memory, and what lies past the pool is room for no string.
+        self.pool.reserve_exact(wanted - size)?;
+        self.pool.resize(wanted, 0)
     }
 
     /// How many bytes the strings have in all.

@@ -1,8 +1,11 @@
-use Rattle.std.proofs.Common.{ℕ, suc, ◌<◌, List, length, get_or, subst, arith}
-use Rattle.meaning.specs.Packets.{letters_of}
+use Rattle.std.proofs.Common.{vec_items, arith}
+use Rattle.packed.specs.Strings.{items}
+use Rattle.meaning.proofs.Finding.{indices_few, length_letters}
 use Rattle.meaning.proofs.inbox.impls.LettersToIterator.next.Goals as goal
 
-pub invariant_of-self : goal.invariant_of-self
-invariant_of-self c =
-    let s = c.args.self.now in
-    record { inside = λ k d lt. subst (λ (l : List ℕ). (k d : ℕ) → k < length l → get_or l k d < length (letters_of s.letters.now)) c.in_ok-k.ensures.cases.0 s.inside (suc k) d (omega arith) }
+pub overflow_add-self : goal.overflow_add-self
+overflow_add-self c =
+    let l = c.args.self.now.inbox.now.letters in
+    let v = c.args.self.now.place.0 in
+    let hs = vec_items l.heads in
+    omega (arith, c.in_ok-letter.ensures, length_letters v hs (items l.bodies) l.even, indices_few v 0 hs, l.heads.ok)

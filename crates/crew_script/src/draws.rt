@@ -1,6 +1,6 @@
 // Events that are drawn from a seed.
 ghost use Rattle.std.specs.Prelude.{◌≡◌};
-ghost use Rattle.crew_script.specs.Draws.{event_at, machine_at};
+ghost use Rattle.crew_script.specs.Draws.{event_at, machine_at, state_after};
 
 use crate::settings::{Event, Machine};
 
@@ -8,6 +8,15 @@ use crate::settings::{Event, Machine};
 const FACTOR: u64 = 6364136223846793005;
 
 const STEP: u64 = 1442695040888963407;
+
+/// The generator's state after one draw, and the event that it draws for so many workers. The first state is the seed.
+pub fn draw(state: u64, workers: u8) -> (u64, Event)
+    ensures state { result.0 ≡ state_after state }
+    ensures event { result.1 ≡ event_at (state_after state) workers }
+{
+    let next = state.wrapping_mul(FACTOR).wrapping_add(STEP);
+    (next, event_at(next, workers))
+}
 
 /// The events that a seed draws for so many workers, without end.
 #[derive(Clone, Copy)]
@@ -37,8 +46,9 @@ impl Iterator for Draws {
     ghost next_gives = { Draw };
 
     fn next(&mut self) -> Option<Event> {
-        self.state = self.state.wrapping_mul(FACTOR).wrapping_add(STEP);
-        Some(event_at(self.state, self.workers))
+        let (state, event) = draw(self.state, self.workers);
+        self.state = state;
+        Some(event)
     }
 }
 

@@ -7,7 +7,7 @@ ghost use Rattle.script.specs.Words.{words_left};
 use crate::complaints::Expected;
 use crate::events::event;
 use crate::settings::{Event, Span};
-use script::{MOST_PLACES, Words, is, limited, only};
+use script::{MOST_PLACES, Words, is, limited, only, said};
 
 const LAST_PLACE: u32 = MOST_PLACES - 1;
 
@@ -39,7 +39,7 @@ pub(crate) fn parse(line: &[u8]) -> Statement
     } else {
         match event(word, words) {
             Some(event) => Statement::Happens(event),
-            None => Statement::Lone(script::parse(line)),
+            None => Statement::Lone(said(word, words)),
         }
     }
 }

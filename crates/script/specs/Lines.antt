@@ -1,6 +1,6 @@
 -- A script's lines, and where each lies.
 -- Assumes nothing.
-use Rattle.std.specs.Prelude.{ℕ, ◌+◌, List, [], ◌∷◌, length, drop, Some, None, Option}
+use Rattle.std.specs.Prelude.{ℕ, ◌+◌, cond, List, [], ◌∷◌, length, drop, nat_le}
 use Rattle.std.specs.Borrow.{Bor}
 use Rattle.script.specs.declared.lines.Position.{Position}
 use Rattle.script.specs.declared.lines.Lines.{Lines}
@@ -18,9 +18,9 @@ lines_in text = placed 1 0 (lines_of text)
 abbrev pub shown : Position × Bor (List ℕ) → Position × List ℕ
 shown l = (l.0, l.1.now)
 
-abbrev pub left_from : List ℕ → ℕ → Option ℕ → List (Position × List ℕ)
-left_from text n None = []
-left_from text n (Some i) = placed n i (lines_of (drop i text))
+-- from place i of a text on; past its end there is none
+abbrev pub left_from : List ℕ → ℕ → ℕ → List (Position × List ℕ)
+left_from text n i = cond (nat_le i (length text)) (placed n i (lines_of (drop i text))) []
 
 abbrev pub lines_left : Lines → List (Position × List ℕ)
 lines_left s = left_from s.text.now s.line s.start

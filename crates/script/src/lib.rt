@@ -20,5 +20,5 @@ pub use numbers::{limited, only};
 pub use output::{head, line, put};
 pub use reader::{lack, read};
 pub use settings::{Choice, Script};
-pub use statements::{MOST_PLACES, Statement, bare, parse};
+pub use statements::{MOST_PLACES, Statement, bare, parse, said};
 pub use words::{Words, is};

@@ -1,5 +1,5 @@
 // What a line says.
-ghost use Rattle.std.specs.Prelude.{◌≡◌};
+ghost use Rattle.std.specs.Prelude.{◌≡◌, ◌∷◌};
 ghost use Rattle.script.specs.Saying.{bare_of, grid_of, plan_of, scramble_with, statement_of};
 ghost use Rattle.script.specs.Text.{one_number, words_of};
 ghost use Rattle.script.specs.Words.{words_left};
@@ -30,9 +30,16 @@ pub fn parse(line: &[u8]) -> Statement
     ensures { result ≡ statement_of (words_of line.now) }
 {
     let mut words = Words::of(line);
-    let Some(word) = words.next() else {
-        return Statement::Nothing;
-    };
+    match words.next() {
+        Some(word) => said(word, words),
+        None => Statement::Nothing,
+    }
+}
+
+/// What a line with this first word says by those that follow it.
+pub fn said(word: &[u8], words: Words<'_>) -> Statement
+    ensures { result ≡ statement_of (word.now ∷ words_left words.entry) }
+{
     if is(word, b"places") {
         Statement::Places(only(words, 0, MOST_PLACES).ok_or(Expected::PlaceCount))
     } else if is(word, b"plan") {

@@ -25,7 +25,7 @@ fn table(heap: Global, places: u32, workers: u8, spans: &[Span]) -> anyhow::Resu
     made.map_err(|fault| anyhow!("rehearse: {fault}"))
 }
 
-// The states of a worker's places.
+// The states of a worker's places, written before the next one's.
 fn show_worker<P: Plan + Drop>(
     out: &mut Blocks,
     world: &World<P>,
@@ -35,12 +35,12 @@ fn show_worker<P: Plan + Drop>(
         return Ok(());
     };
     let round = worker.round().0;
-    out.put(|lines| script::head(lines, round))?;
+    out.put(|lines| crew_script::head(lines, round))?;
     // By number: the world's theorem is about the look at one place.
     for look in (0..worker.places()).filter_map(|k| world.look(line, k)) {
-        out.put(|lines| script::line(lines, look.place.0, look.rests, look.state))?;
+        out.put(|lines| crew_script::line(lines, look.place.0, look.rests, look.state))?;
     }
-    Ok(())
+    out.write()
 }
 
 fn show<P: Plan + Drop>(rt: &HostRuntime, world: &World<P>, tally: Tally) -> anyhow::Result<()> {

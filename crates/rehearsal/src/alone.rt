@@ -2,7 +2,7 @@
 use crate::blocks::Blocks;
 use crate::progress::Progress;
 use anyhow::anyhow;
-use meaning::{Plan, Round};
+use meaning::{Place, Plan, Round};
 use rounds::{Alone, run};
 
 // The states, a line for each place.
@@ -10,8 +10,10 @@ fn show(rt: &HostRuntime, all: &Alone) -> anyhow::Result<()> {
     let mut out = Blocks::new(rt)?;
     let round = all.round().0;
     out.put(|lines| script::head(lines, round))?;
-    for (place, held) in (0..all.places()).zip(all.standing().iter()) {
-        out.put(|lines| script::line(lines, place, held.rests, held.state))?;
+    for place in (0..all.places()).map(Place) {
+        if let Some(state) = all.state(place) {
+            out.put(|lines| script::line(lines, place.0, all.rests(place), state))?;
+        }
     }
     out.end()
 }

@@ -31,7 +31,8 @@ impl Blocks {
         Ok(())
     }
 
-    fn write(&mut self) -> anyhow::Result<()> {
+    /// Writes what there is, though it be no whole block.
+    pub fn write(&mut self) -> anyhow::Result<()> {
         self.rt.stdout().write_all(self.lines.as_slice())?;
         self.lines.clear();
         Ok(())

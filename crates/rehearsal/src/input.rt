@@ -5,9 +5,21 @@ use std::fmt::Display;
 use std::io::Read;
 use std::process::ExitCode;
 
+// So much is asked for at a time: what a packet has beyond what is asked for is lost.
+const BLOCK: usize = 65536;
+
+// By hand, in place of `read_to_end`: that asks for 512 bytes first, and tells want of memory as an error of its own.
 fn input(rt: &HostRuntime) -> anyhow::Result<Vec<u8>> {
     let mut text = Vec::new(rt.alloc());
-    rt.stdin().read_to_end(&mut text)?;
+    let mut block = vec![in rt.alloc(); 0u8; BLOCK]?;
+    let mut stdin = rt.stdin();
+    for _ in 0..u64::MAX {
+        let n = stdin.read(block.as_mut_slice())?;
+        if n == 0 {
+            break;
+        }
+        text.extend_from_slice(&block[0..n])?;
+    }
     Ok(text)
 }
 

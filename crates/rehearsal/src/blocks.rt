@@ -2,7 +2,7 @@
 use std::alloc::AllocError;
 use std::io::Write;
 
-const BLOCK: usize = 65536;
+pub(crate) const BLOCK: usize = 65536;
 
 #[derive(Drop)]
 pub struct Blocks {

@@ -1,14 +1,13 @@
 // A script from standard input, and what was wrong with it.
+use crate::blocks::BLOCK;
 use script::{Complaint, Position, Unread};
 use std::alloc::Global;
 use std::fmt::Display;
 use std::io::Read;
 use std::process::ExitCode;
 
-// So much is asked for at a time: what a packet has beyond what is asked for is lost.
-const BLOCK: usize = 65536;
-
-// By hand, in place of `read_to_end`: that asks for 512 bytes first, and tells want of memory as an error of its own.
+// A block is asked for at a time: what a packet has beyond it is lost. By hand, in place of `read_to_end`: that asks for 512
+// bytes first, and tells want of memory as an error of its own.
 fn input(rt: &HostRuntime) -> anyhow::Result<Vec<u8>> {
     let mut text = Vec::new(rt.alloc());
     let mut block = vec![in rt.alloc(); 0u8; BLOCK]?;

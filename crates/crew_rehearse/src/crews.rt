@@ -40,7 +40,8 @@ fn show_worker<P: Plan + Drop>(
     for look in (0..worker.places()).filter_map(|k| world.look(line, k)) {
         out.put(|lines| crew_script::line(lines, look.place.0, look.rests, look.state))?;
     }
-    out.write()
+    out.write()?;
+    Ok(())
 }
 
 fn show<P: Plan + Drop>(rt: &HostRuntime, world: &World<P>, tally: Tally) -> anyhow::Result<()> {

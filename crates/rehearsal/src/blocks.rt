@@ -1,5 +1,6 @@
 // Lines on standard output, written in blocks.
 use std::alloc::AllocError;
+use std::io;
 use std::io::Write;
 
 pub(crate) const BLOCK: usize = 65536;
@@ -31,8 +32,9 @@ impl Blocks {
         Ok(())
     }
 
-    /// Writes what there is, though it be no whole block.
-    pub fn write(&mut self) -> anyhow::Result<()> {
+    /// Writes what there is, though it be no whole block. Its answer is no `anyhow::Result`, whose 288 bytes would be blanked for
+    /// each line that is put.
+    pub fn write(&mut self) -> io::Result<()> {
         self.rt.stdout().write_all(self.lines.as_slice())?;
         self.lines.clear();
         Ok(())

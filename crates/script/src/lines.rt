@@ -14,7 +14,7 @@ pub struct Position {
 // By hand, in place of `split`: a complaint names where its line lies, which would have to be counted beside a `split`.
 
 /// The lines that are left. What follows the last newline is a line too. Past the last line the start is past the text: it
-/// is no `Option`, since to carry one along takes a script of short lines 1.3 of the time.
+/// is no `Option`, since with one a script of lines that say nothing takes 1.4 to 1.6 of the time.
 #[derive(Clone, Copy)]
 pub struct Lines<'a> {
     text: &'a [u8],

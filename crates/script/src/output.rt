@@ -21,7 +21,7 @@ pub fn head(out: &mut Vec<u8>, round: u32) -> Result<(), AllocError>
     out.reserve(HEAD_ROOM)?;
     put(out, b"round ");
     put(out, Buffer::new().format(round).as_bytes());
-    put(out, b"\n");
+    out.push_reserved(b'\n');
     Ok(())
 }
 
@@ -32,9 +32,11 @@ pub fn line(out: &mut Vec<u8>, place: u32, rests: bool, state: &[u8]) -> Result<
 {
     out.reserve(state.len().saturating_mul(2).saturating_add(LINE_ROOM))?;
     put(out, Buffer::new().format(place).as_bytes());
-    put(out, if rests { b" 1 " } else { b" 0 " });
+    out.push_reserved(b' ');
+    out.push_reserved(if rests { b'1' } else { b'0' });
+    out.push_reserved(b' ');
     put_state(out, state);
-    put(out, b"\n");
+    out.push_reserved(b'\n');
     Ok(())
 }
 

@@ -43,8 +43,9 @@ impl Alone {
         ensures { result ≡ slice_index_or (view_of self.now).rests place.0 false }
     {
         self.standing
+            .rests
             .get(place.0 as usize)
-            .is_some_and(|held| held.rests)
+            .is_some_and(|rests| *rests)
     }
 
     /// All rest, and no letter is under way.

@@ -6,6 +6,7 @@ use crew_script::{Crew, Span, Tally, counts};
 use meaning::{Place, Plan};
 use rehearsal::Blocks;
 use std::alloc::Global;
+use std::io::Write;
 use world::World;
 
 // The table of who has which, by the script's stretches or evenly.
@@ -26,31 +27,32 @@ fn table(heap: Global, places: u32, workers: u8, spans: &[Span]) -> anyhow::Resu
 }
 
 // The states of a worker's places, written before the next one's.
-fn show_worker<P: Plan + Drop>(
-    out: &mut Blocks,
+fn show_worker<P: Plan + Drop, W: Write + Drop>(
+    out: &mut Blocks<W>,
     world: &World<P>,
     line: Line,
 ) -> anyhow::Result<()> {
     let Some(worker) = world.state().worker(line) else {
         return Ok(());
     };
-    let round = worker.round().0;
-    out.put(|lines| crew_script::head(lines, round))?;
+    crew_script::head(&mut out.lines, worker.round().0)?;
     // By number: the world's theorem is about the look at one place.
     for look in (0..worker.places()).filter_map(|k| world.look(line, k)) {
-        out.put(|lines| crew_script::line(lines, look.place.0, look.rests, look.state))?;
+        crew_script::line(&mut out.lines, look.place.0, look.rests, look.state)?;
+        out.write_if_block()?;
     }
     out.write()?;
     Ok(())
 }
 
 fn show<P: Plan + Drop>(rt: &HostRuntime, world: &World<P>, tally: Tally) -> anyhow::Result<()> {
-    let mut out = Blocks::new(rt)?;
+    let mut out = Blocks::new(rt.alloc(), rt.stdout())?;
     for line in (0..world.state().workers()).map(Line) {
         show_worker(&mut out, world, line)?;
     }
-    out.put(|lines| counts(lines, tally))?;
-    out.end()
+    counts(&mut out.lines, tally)?;
+    out.end()?;
+    Ok(())
 }
 
 pub fn play<P: Plan + Drop>(

@@ -16,10 +16,13 @@ struct Stage<'a> {
 }
 
 impl Player for Stage<'_> {
-    fn play<P: Plan + Drop>(&self, plan: P, name: &str) -> anyhow::Result<()> {
+    fn play<P: Plan + Drop>(self, plan: P, name: &str) -> anyhow::Result<()> {
         let places = self.script.places;
         match &self.script.run {
-            Run::Alone { rounds } => rehearsal::play(self.rt, &plan, name, places, *rounds),
+            Run::Alone { rounds } => {
+                rehearsal::play(self.rt, self.rt.stdout(), &plan, name, places, *rounds)?;
+                Ok(())
+            }
             Run::Crew(crew) => crews::play(self.rt, plan, name, places, crew),
         }
     }
@@ -31,6 +34,6 @@ fn main(rt: HostRuntime) -> anyhow::Result<ExitCode> {
         &rt,
         // A closure: the name of a function of another crate, passed on, got no proof.
         |heap, text| crew_script::read(heap, text),
-        |script| with_plan(script.plan, script.places, &Stage { rt: &rt, script }),
+        |script| with_plan(script.plan, script.places, Stage { rt: &rt, script }),
     )
 }

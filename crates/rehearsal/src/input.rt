@@ -1,4 +1,6 @@
 // A script from standard input, and what was wrong with it.
+ghost use Rattle.std.specs.Prelude.{◌≡◌, IfOk, IfSome};
+
 use crate::blocks::BLOCK;
 use script::{Complaint, Position, Unread};
 use std::alloc::Global;
@@ -6,14 +8,15 @@ use std::fmt::Display;
 use std::io::Read;
 use std::process::ExitCode;
 
-// A block is asked for at a time: what a packet has beyond it is lost. By hand, in place of `read_to_end`: that asks for 512
-// bytes first, and tells want of memory as an error of its own.
-fn input(rt: &HostRuntime) -> anyhow::Result<Vec<u8>> {
-    let mut text = Vec::new(rt.alloc());
-    let mut block = vec![in rt.alloc(); 0u8; BLOCK]?;
-    let mut stdin = rt.stdin();
+// All that there is to read. A block is asked for at a time: what a packet has beyond it is lost. By hand, in place of
+// `read_to_end`: that asks for 512 bytes first, and tells want of memory as an error of its own.
+fn input<R: Read>(heap: Global, from: &mut R) -> anyhow::Result<Vec<u8>>
+    ensures { IfOk result (λ t. IfSome (R.remaining from.old) (λ xs. t.items ≡ xs)) }
+{
+    let mut text = Vec::new(heap);
+    let mut block = vec![in heap; 0u8; BLOCK]?;
     for _ in 0..u64::MAX {
-        let n = stdin.read(block.as_mut_slice())?;
+        let n = from.read(block.as_mut_slice())?;
         if n == 0 {
             break;
         }
@@ -60,7 +63,7 @@ where
     requires reads { R.IsAlwaysCallable read }
     requires plays { P.IsAlwaysCallable play }
 {
-    let text = input(rt)?;
+    let text = input(rt.alloc(), &mut rt.stdin())?;
     match read(rt.alloc(), text.as_slice()) {
         Ok(script) => {
             play(&script)?;

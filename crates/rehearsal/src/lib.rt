@@ -9,7 +9,7 @@ mod progress;
 #[cfg(test)]
 mod tests;
 
-pub use alone::play;
+pub use alone::{play, show};
 pub use blocks::Blocks;
 pub use input::rehearse;
 pub use named::{Player, with_plan};

@@ -1,16 +1,26 @@
 // The plans that scripts name.
+ghost use Rattle.std.specs.Prelude.{OnOk};
+ghost use Rattle.meaning.specs.Meaning.{Program};
+ghost use Rattle.rehearsal.specs.Chosen.{IsChosen};
+
 use anyhow::Context;
 use meaning::Plan;
 use plans::{Echo, Grid, Scramble, Sum};
 use script::Choice;
 
-/// What is to be done with a plan.
-pub trait Player {
-    fn play<P: Plan + Drop>(&self, plan: P, name: &str) -> anyhow::Result<()>;
+/// What is to be done with a plan, once.
+pub trait Player: Sized {
+    // What it says of a program that it has played.
+    ghost Played: { Self → Program → Type 0 } = { λ _ _. Unit {0} };
+
+    fn play<P: Plan + Drop>(self, plan: P, name: &str) -> anyhow::Result<()>
+        ensures { OnOk result (Played self (P.Plan.program plan)) };
 }
 
 /// Has the plan played that was chosen for so many places.
-pub fn with_plan<A: Player>(choice: Choice, places: u32, player: &A) -> anyhow::Result<()> {
+pub fn with_plan<A: Player + Drop>(choice: Choice, places: u32, player: A) -> anyhow::Result<()>
+    ensures { OnOk result ((q : Program) × IsChosen places choice q × A.Played player q) }
+{
     match choice {
         Choice::Sum => player.play(Sum, "sum"),
         Choice::Echo => player.play(Echo, "echo"),

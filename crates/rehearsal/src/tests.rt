@@ -1,24 +1,67 @@
 // That plans are played, and which are refused.
-use crate::{Player, play, with_plan};
-use meaning::Plan;
+use crate::{Blocks, Player, play, show, with_plan};
+use meaning::{Plan, Round};
 use plans::Echo;
+use rounds::{Watch, run};
 use script::Choice;
+use std::io::Write;
 
+#[derive(Drop)]
 struct Nobody;
 
 impl Player for Nobody {
-    fn play<P: Plan + Drop>(&self, _plan: P, _name: &str) -> anyhow::Result<()> {
+    fn play<P: Plan + Drop>(self, _plan: P, _name: &str) -> anyhow::Result<()> {
         Ok(())
     }
 }
 
 #[test]
 fn plays_alone(rt: HostRuntime) {
-    assert!(rt; play(&rt, &Echo, "echo", 2, 3).is_ok());
+    assert!(rt; play(&rt, rt.stdout(), &Echo, "echo", 2, 3).is_ok());
 }
 
 #[test]
 fn grids_have_a_width(rt: HostRuntime) {
-    assert!(rt; with_plan(Choice::Grid { width: 1, last: 0 }, 1, &Nobody).is_ok());
-    assert!(rt; with_plan(Choice::Grid { width: 0, last: 0 }, 1, &Nobody).is_err());
+    assert!(rt; with_plan(Choice::Grid { width: 1, last: 0 }, 1, Nobody).is_ok());
+    assert!(rt; with_plan(Choice::Grid { width: 0, last: 0 }, 1, Nobody).is_err());
+}
+
+#[derive(Drop)]
+struct Unwatched;
+
+impl Watch for Unwatched {
+    fn reached(&mut self, _round: Round) {}
+}
+
+fn two_places_shown<W: Write + Drop>(rt: &HostRuntime, out: W) -> anyhow::Result<W> {
+    let all = run(rt.alloc(), &Echo, 2, Round(3), &mut Unwatched)?;
+    show(rt.alloc(), &all, out)
+}
+
+// As docs/PROTOCOL.md has it: who echoes rests after the first round.
+#[test]
+fn shows_each_place(rt: HostRuntime) {
+    let shown = two_places_shown(&rt, Vec::new(rt.alloc()));
+    assert!(rt; shown.is_ok_and(|text| text.as_slice() == b"round 1\n0 1 -\n1 1 -\n".as_slice()));
+}
+
+#[test]
+fn tells_that_nothing_more_fits(rt: HostRuntime) {
+    let mut room = [0u8; 9];
+    assert!(rt; two_places_shown(&rt, &mut room[..]).is_err());
+}
+
+fn written(rt: &HostRuntime) -> anyhow::Result<Vec<u8>> {
+    let mut out = Blocks::new(rt.alloc(), Vec::new(rt.alloc()))?;
+    out.lines.extend_from_slice(b"abc")?;
+    out.write_if_block()?;
+    out.lines.extend_from_slice(b"de")?;
+    out.write()?;
+    out.lines.extend_from_slice(b"f")?;
+    Ok(out.end()?)
+}
+
+#[test]
+fn what_waits_is_written(rt: HostRuntime) {
+    assert!(rt; written(&rt).is_ok_and(|text| text.as_slice() == b"abcdef".as_slice()));
 }

@@ -13,8 +13,16 @@ struct Alone<'a> {
 }
 
 impl Player for Alone<'_> {
-    fn play<P: Plan + Drop>(&self, plan: P, name: &str) -> anyhow::Result<()> {
-        rehearsal::play(self.rt, &plan, name, self.script.places, self.script.rounds)
+    fn play<P: Plan + Drop>(self, plan: P, name: &str) -> anyhow::Result<()> {
+        rehearsal::play(
+            self.rt,
+            self.rt.stdout(),
+            &plan,
+            name,
+            self.script.places,
+            self.script.rounds,
+        )?;
+        Ok(())
     }
 }
 
@@ -23,6 +31,6 @@ fn main(rt: HostRuntime) -> anyhow::Result<ExitCode> {
         &rt,
         // A closure: the name of a function of another crate, passed on, got no proof.
         |heap, text| script::read(heap, text),
-        |script| with_plan(script.plan, script.places, &Alone { rt: &rt, script }),
+        |script| with_plan(script.plan, script.places, Alone { rt: &rt, script }),
     )
 }

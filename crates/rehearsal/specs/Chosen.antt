@@ -1,0 +1,20 @@
+-- Which program a choice of a script is.
+-- Assumes nothing.
+use Rattle.std.specs.Prelude.{◌≡◌, ℕ}
+use Rattle.meaning.specs.Meaning.{Program}
+use Rattle.script.specs.declared.settings.Choice.{Choice}
+use Rattle.script.specs.declared.settings.Choice.TheVariants.{Sum, Echo, Scramble, Grid}
+use Rattle.plans.specs.Sum.{adding}
+use Rattle.plans.specs.Echo.{keeping}
+use Rattle.plans.specs.Scramble.{scrambling}
+use Rattle.plans.specs.Grid.{spreading}
+use Rattle.plans.specs.declared.sum.Sum.{Sum as Adding}
+use Rattle.plans.specs.declared.echo.Echo.{Echo as Keeping}
+use Rattle.plans.specs.declared.grid.Grid.{Grid as Spreading}
+
+-- of so many places; a grid that is no place wide is none
+abbrev pub IsChosen : (places : ℕ) → Choice → Program → Type 0
+IsChosen n Sum q = (p : Adding) × (q ≡ adding p)
+IsChosen n Echo q = (p : Keeping) × (q ≡ keeping p)
+IsChosen n (Scramble last) q = q ≡ scrambling (record { places = n; last = last })
+IsChosen n (Grid width last) q = (p : Spreading) × (p.width ≡ width) × (p.last ≡ last) × (q ≡ spreading p)

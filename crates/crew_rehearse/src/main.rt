@@ -6,7 +6,7 @@ mod fared;
 
 use crew_script::{Run, Script};
 use meaning::Plan;
-use rehearsal::{Player, rehearse, with_plan};
+use rehearsal::{PlayerOnce, rehearse, with_plan_once};
 use std::process::ExitCode;
 
 #[derive(Clone, Copy)]
@@ -15,7 +15,7 @@ struct Stage<'a> {
     script: &'a Script,
 }
 
-impl Player for Stage<'_> {
+impl PlayerOnce for Stage<'_> {
     fn play<P: Plan + Drop>(self, plan: P, name: &str) -> anyhow::Result<()> {
         let places = self.script.places;
         match &self.script.run {
@@ -34,6 +34,6 @@ fn main(rt: HostRuntime) -> anyhow::Result<ExitCode> {
         &rt,
         // A closure: the name of a function of another crate, passed on, got no proof.
         |heap, text| crew_script::read(heap, text),
-        |script| with_plan(script.plan, script.places, Stage { rt: &rt, script }),
+        |script| with_plan_once(script.plan, script.places, Stage { rt: &rt, script }),
     )
 }

@@ -12,4 +12,4 @@ mod tests;
 pub use alone::{play, show};
 pub use blocks::Blocks;
 pub use input::rehearse;
-pub use named::{Player, with_plan};
+pub use named::{Player, PlayerOnce, with_plan, with_plan_once};

@@ -1,5 +1,5 @@
 // The plans that scripts name.
-ghost use Rattle.std.specs.Prelude.{OnOk};
+ghost use Rattle.std.specs.Prelude.{Bool, is_ok, true, OnOk};
 ghost use Rattle.meaning.specs.Meaning.{Program};
 ghost use Rattle.rehearsal.specs.Chosen.{IsChosen};
 
@@ -8,8 +8,17 @@ use meaning::Plan;
 use plans::{Echo, Grid, Scramble, Sum};
 use script::Choice;
 
+/// What is to be done with a plan.
+pub trait Player {
+    // What it says of a program that it was given, and of whether it went well.
+    ghost Answered: { Self → Program → Bool → Type 0 } = { λ _ _ _. Unit {0} };
+
+    fn play<P: Plan + Drop>(&self, plan: P, name: &str) -> anyhow::Result<()>
+        ensures { Answered self.now (P.Plan.program plan) (is_ok result) };
+}
+
 /// What is to be done with a plan, once.
-pub trait Player: Sized {
+pub trait PlayerOnce: Sized {
     // What it says of a program that it has played.
     ghost Played: { Self → Program → Type 0 } = { λ _ _. Unit {0} };
 
@@ -17,8 +26,31 @@ pub trait Player: Sized {
         ensures { OnOk result (Played self (P.Plan.program plan)) };
 }
 
+// A player that is lent, for one play.
+#[derive(Drop)]
+struct Lent<'a, A: Player>(&'a A);
+
+impl<A: Player> PlayerOnce for Lent<'_, A> {
+    ghost Played = { λ s q. A.Answered s.0.now q true };
+
+    fn play<P: Plan + Drop>(self, plan: P, name: &str) -> anyhow::Result<()> {
+        self.0.play(plan, name)
+    }
+}
+
+/// Has a player that is lent play the plan that was chosen for so many places.
+pub fn with_plan<A: Player>(choice: Choice, places: u32, player: &A) -> anyhow::Result<()>
+    ensures { OnOk result ((q : Program) × IsChosen places choice q × A.Answered player.now q true) }
+{
+    with_plan_once(choice, places, Lent(player))
+}
+
 /// Has the plan played that was chosen for so many places.
-pub fn with_plan<A: Player + Drop>(choice: Choice, places: u32, player: A) -> anyhow::Result<()>
+pub fn with_plan_once<A: PlayerOnce + Drop>(
+    choice: Choice,
+    places: u32,
+    player: A,
+) -> anyhow::Result<()>
     ensures { OnOk result ((q : Program) × IsChosen places choice q × A.Played player q) }
 {
     match choice {

@@ -1,5 +1,6 @@
 // That plans are played, and which are refused.
-use crate::{Blocks, Player, play, show, with_plan};
+use crate::{Blocks, Player, PlayerOnce, play, show, with_plan, with_plan_once};
+use anyhow::anyhow;
 use meaning::{Plan, Round};
 use plans::Echo;
 use rounds::{Watch, run};
@@ -9,7 +10,7 @@ use std::io::Write;
 #[derive(Drop)]
 struct Nobody;
 
-impl Player for Nobody {
+impl PlayerOnce for Nobody {
     fn play<P: Plan + Drop>(self, _plan: P, _name: &str) -> anyhow::Result<()> {
         Ok(())
     }
@@ -22,8 +23,36 @@ fn plays_alone(rt: HostRuntime) {
 
 #[test]
 fn grids_have_a_width(rt: HostRuntime) {
-    assert!(rt; with_plan(Choice::Grid { width: 1, last: 0 }, 1, Nobody).is_ok());
-    assert!(rt; with_plan(Choice::Grid { width: 0, last: 0 }, 1, Nobody).is_err());
+    assert!(rt; with_plan_once(Choice::Grid { width: 1, last: 0 }, 1, Nobody).is_ok());
+    assert!(rt; with_plan_once(Choice::Grid { width: 0, last: 0 }, 1, Nobody).is_err());
+}
+
+// Who is lent, and plays what has this name.
+#[derive(Drop)]
+struct Only<'a>(&'a str);
+
+impl Player for Only<'_> {
+    fn play<P: Plan + Drop>(&self, _plan: P, name: &str) -> anyhow::Result<()> {
+        if name == self.0 {
+            Ok(())
+        } else {
+            Err(anyhow!("it is {name}"))
+        }
+    }
+}
+
+#[test]
+fn who_is_lent_plays_again(rt: HostRuntime) {
+    let grids = Only("grid");
+    let narrow = Choice::Grid { width: 1, last: 0 };
+    let none = Choice::Grid { width: 0, last: 0 };
+    assert!(rt; with_plan(narrow, 1, &grids).is_ok());
+    assert!(rt; with_plan(none, 1, &grids).is_err());
+    assert!(rt; with_plan(Choice::Echo, 1, &grids).is_err());
+    assert!(rt; with_plan(narrow, 1, &grids).is_ok());
+    assert!(rt; with_plan(Choice::Echo, 1, &Only("echo")).is_ok());
+    assert!(rt; with_plan(Choice::Sum, 1, &Only("sum")).is_ok());
+    assert!(rt; with_plan(Choice::Scramble { last: 2 }, 1, &Only("scramble")).is_ok());
 }
 
 #[derive(Drop)]

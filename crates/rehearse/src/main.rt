@@ -2,7 +2,7 @@
 #![tactic(auto)]
 
 use meaning::Plan;
-use rehearsal::{Player, rehearse, with_plan};
+use rehearsal::{PlayerOnce, rehearse, with_plan_once};
 use script::Script;
 use std::process::ExitCode;
 
@@ -12,7 +12,7 @@ struct Alone<'a> {
     script: &'a Script,
 }
 
-impl Player for Alone<'_> {
+impl PlayerOnce for Alone<'_> {
     fn play<P: Plan + Drop>(self, plan: P, name: &str) -> anyhow::Result<()> {
         rehearsal::play(
             self.rt,
@@ -31,6 +31,6 @@ fn main(rt: HostRuntime) -> anyhow::Result<ExitCode> {
         &rt,
         // A closure: the name of a function of another crate, passed on, got no proof.
         |heap, text| script::read(heap, text),
-        |script| with_plan(script.plan, script.places, Alone { rt: &rt, script }),
+        |script| with_plan_once(script.plan, script.places, Alone { rt: &rt, script }),
     )
 }

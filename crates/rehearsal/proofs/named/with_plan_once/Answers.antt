@@ -4,7 +4,7 @@ use Rattle.std.proofs.lemmas.Result.{on_ok_weaker}
 use Rattle.plans.specs.Grid.{spreading}
 use Rattle.plans.specs.declared.grid.Grid.{Grid}
 use Rattle.rehearsal.specs.Chosen.{IsChosen}
-use Rattle.rehearsal.proofs.named.with_plan.Goals as goal
+use Rattle.rehearsal.proofs.named.with_plan_once.Goals as goal
 
 pub returns-in_ok-plan-in-Grid : goal.returns-in_ok-plan-in-Grid
 returns-in_ok-plan-in-Grid g c =

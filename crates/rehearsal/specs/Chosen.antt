@@ -1,6 +1,6 @@
 -- Which program a choice of a script is.
 -- Assumes nothing.
-use Rattle.std.specs.Prelude.{◌≡◌, ℕ}
+use Rattle.std.specs.Prelude.{◌≡◌, ℕ, Bool, true, ◌&&◌, List, codes, nat_lt, nat_le}
 use Rattle.meaning.specs.Meaning.{Program}
 use Rattle.script.specs.declared.settings.Choice.{Choice}
 use Rattle.script.specs.declared.settings.Choice.TheVariants.{Sum, Echo, Scramble, Grid}
@@ -18,3 +18,17 @@ IsChosen n Sum q = (p : Adding) × (q ≡ adding p)
 IsChosen n Echo q = (p : Keeping) × (q ≡ keeping p)
 IsChosen n (Scramble last) q = q ≡ scrambling (record { places = n; last = last })
 IsChosen n (Grid width last) q = (p : Spreading) × (p.width ≡ width) × (p.last ≡ last) × (q ≡ spreading p)
+
+-- whether it is a plan at all: a grid is 1 to 1048576 places wide
+abbrev pub is_plan : Choice → Bool
+is_plan Sum = true
+is_plan Echo = true
+is_plan (Scramble last) = true
+is_plan (Grid width last) = nat_lt 0 width && nat_le width 1048576
+
+-- how it is called
+abbrev pub name_of : Choice → List ℕ
+name_of Sum = codes "sum"
+name_of Echo = codes "echo"
+name_of (Scramble last) = codes "scramble"
+name_of (Grid width last) = codes "grid"

@@ -1,5 +1,9 @@
 // A script from standard input, and what was wrong with it.
-ghost use Rattle.std.specs.Prelude.{◌≡◌, IfOk, IfSome};
+ghost use Rattle.std.specs.Prelude.{◌≡◌, ◌≢◌, ℕ, List, Ok, Err, IfOk, IfSome};
+ghost use Rattle.std.specs.Borrow.{Bor};
+ghost use Rattle.std.specs.Fn.{FnOnceReturnsAt};
+ghost use Rattle.std.specs.Process.{exit_status};
+ghost use Rattle.script.specs.declared.complaints.Unread.TheVariants.{Bad};
 
 use crate::blocks::BLOCK;
 use script::{Complaint, Position, Unread};
@@ -53,7 +57,8 @@ fn complain<E: Display>(
     Ok(())
 }
 
-/// Plays what is read from standard input. The status is 0 only where the script was played.
+/// Plays what is read from standard input. The status is 0 only where a script was read and its play went well, and another
+/// only where what was read is bad.
 pub fn rehearse<S, E, R, P>(rt: &HostRuntime, read: R, play: P) -> anyhow::Result<ExitCode>
 where
     S: Drop,
@@ -62,6 +67,8 @@ where
     P: FnOnce(&S) -> anyhow::Result<()>,
     requires reads { R.IsAlwaysCallable read }
     requires plays { P.IsAlwaysCallable play }
+    ensures played { IfOk result (λ code. exit_status code ≡ 0 → (heap : Global) × (text : Bor (List ℕ)) × (script : S) × R.post read heap text (Ok script) × FnOnceReturnsAt P.FnOnce play script (Ok tt)) }
+    ensures bad { IfOk result (λ code. exit_status code ≢ 0 → (heap : Global) × (text : Bor (List ℕ)) × (complaints : _) × R.post read heap text (Err (Bad complaints))) }
 {
     let text = input(rt.alloc(), &mut rt.stdin())?;
     match read(rt.alloc(), text.as_slice()) {

@@ -1,7 +1,7 @@
 // The plans that scripts name.
-ghost use Rattle.std.specs.Prelude.{Bool, is_ok, true, OnOk};
+ghost use Rattle.std.specs.Prelude.{◌≡◌, ℕ, Bool, true, false, List, is_ok, OnOk};
 ghost use Rattle.meaning.specs.Meaning.{Program};
-ghost use Rattle.rehearsal.specs.Chosen.{IsChosen};
+ghost use Rattle.rehearsal.specs.Chosen.{IsChosen, is_plan, name_of};
 
 use anyhow::Context;
 use meaning::Plan;
@@ -10,11 +10,11 @@ use script::Choice;
 
 /// What is to be done with a plan.
 pub trait Player {
-    // What it says of a program that it was given, and of whether it went well.
-    ghost Answered: { Self → Program → Bool → Type 0 } = { λ _ _ _. Unit {0} };
+    // What it says of a program that it was given by a name, and of whether it went well.
+    ghost Answered: { Self → Program → List ℕ → Bool → Type 0 } = { λ _ _ _ _. Unit {0} };
 
     fn play<P: Plan + Drop>(&self, plan: P, name: &str) -> anyhow::Result<()>
-        ensures { Answered self.now (P.Plan.program plan) (is_ok result) };
+        ensures { Answered self.now (P.Plan.program plan) name.now (is_ok result) };
 }
 
 /// What is to be done with a plan, once.
@@ -22,8 +22,12 @@ pub trait PlayerOnce: Sized {
     // What it says of a program that it has played.
     ghost Played: { Self → Program → Type 0 } = { λ _ _. Unit {0} };
 
+    // And of one that it was given by a name, and of whether it went well.
+    ghost Answered: { Self → Program → List ℕ → Bool → Type 0 } = { λ _ _ _ _. Unit {0} };
+
     fn play<P: Plan + Drop>(self, plan: P, name: &str) -> anyhow::Result<()>
-        ensures { OnOk result (Played self (P.Plan.program plan)) };
+        ensures played { OnOk result (Played self (P.Plan.program plan)) }
+        ensures answered { Answered self (P.Plan.program plan) name.now (is_ok result) };
 }
 
 // A player that is lent, for one play.
@@ -31,7 +35,7 @@ pub trait PlayerOnce: Sized {
 struct Lent<'a, A: Player>(&'a A);
 
 impl<A: Player> PlayerOnce for Lent<'_, A> {
-    ghost Played = { λ s q. A.Answered s.0.now q true };
+    ghost Answered = { λ s q name ok. A.Answered s.0.now q name ok };
 
     fn play<P: Plan + Drop>(self, plan: P, name: &str) -> anyhow::Result<()> {
         self.0.play(plan, name)
@@ -40,7 +44,8 @@ impl<A: Player> PlayerOnce for Lent<'_, A> {
 
 /// Has a player that is lent play the plan that was chosen for so many places.
 pub fn with_plan<A: Player>(choice: Choice, places: u32, player: &A) -> anyhow::Result<()>
-    ensures { OnOk result ((q : Program) × IsChosen places choice q × A.Answered player.now q true) }
+    ensures asked { is_plan choice ≡ true → (q : Program) × IsChosen places choice q × A.Answered player.now q (name_of choice) (is_ok result) }
+    ensures refused { is_plan choice ≡ false → is_ok result ≡ false }
 {
     with_plan_once(choice, places, Lent(player))
 }
@@ -51,7 +56,9 @@ pub fn with_plan_once<A: PlayerOnce + Drop>(
     places: u32,
     player: A,
 ) -> anyhow::Result<()>
-    ensures { OnOk result ((q : Program) × IsChosen places choice q × A.Played player q) }
+    ensures played { OnOk result ((q : Program) × IsChosen places choice q × A.Played player q) }
+    ensures asked { is_plan choice ≡ true → (q : Program) × IsChosen places choice q × A.Answered player q (name_of choice) (is_ok result) }
+    ensures refused { is_plan choice ≡ false → is_ok result ≡ false }
 {
     match choice {
         Choice::Sum => player.play(Sum, "sum"),

@@ -46,8 +46,13 @@ fn who_is_lent_plays_again(rt: HostRuntime) {
     let grids = Only("grid");
     let narrow = Choice::Grid { width: 1, last: 0 };
     let none = Choice::Grid { width: 0, last: 0 };
+    let wide = Choice::Grid {
+        width: 1048577,
+        last: 0,
+    };
     assert!(rt; with_plan(narrow, 1, &grids).is_ok());
     assert!(rt; with_plan(none, 1, &grids).is_err());
+    assert!(rt; with_plan(wide, 1, &grids).is_err());
     assert!(rt; with_plan(Choice::Echo, 1, &grids).is_err());
     assert!(rt; with_plan(narrow, 1, &grids).is_ok());
     assert!(rt; with_plan(Choice::Echo, 1, &Only("echo")).is_ok());
